@@ -1,0 +1,194 @@
+-- The order of ℤ and the absolute value.
+-- Assumes nothing.
+use mathlib.Core.Path.{_≡_, refl, sym, _∙_, ap, subst}
+use mathlib.Core.Logic.{_⊎_, inl, inr, _↔_}
+use mathlib.Core.Bool.{Bool, true, false, not}
+use mathlib.Core.List.{[], _∷_}
+use Prim.Native.Nat.{ℕ, zero, suc, _+_, _*_, _≤_}
+use native.Mathlib.Nat.{mul-le-mul-right, mul-lt-mul-of-pos-right, mul-zero, le-refl}
+use native.Mathlib.Omega.{arith}
+use lib.Dec.{T, leb·zero}
+use lib.IntN.{ℤ, pos, negsuc, negℤ, natAbs, _+ℤ_, _*ℤ_, _-ℤ_, *ℤ-comm, zero-*ℤ}
+use lib.Signed.{_≤ℤ_, _<ℤ_, ltZ, leZ-yes, ltZ-yes, ltZ-no, clashℤ}
+use Rattle.integers.specs.Parts.{up, dn, ints, add-parts, diff-parts, mul-parts, up-neg, dn-neg, abs-parts, le-parts, lt-parts}
+use Rattle.integers.specs.Linear.{lin, stmt, _&_}
+
+-- ---- a linear order
+pub ≤ℤ-of-≡ : {a b : ℤ} → a ≡ b → a ≤ℤ b
+≤ℤ-of-≡ h = omega (arith, ints)
+
+pub ≤ℤ-trans : {a b c : ℤ} → a ≤ℤ b → b ≤ℤ c → a ≤ℤ c
+≤ℤ-trans h k = omega (arith, ints)
+
+pub ≤ℤ-<ℤ-trans : {a b c : ℤ} → a ≤ℤ b → b <ℤ c → a <ℤ c
+≤ℤ-<ℤ-trans h k = omega (arith, ints)
+
+pub <ℤ-trans : {a b c : ℤ} → a <ℤ b → b <ℤ c → a <ℤ c
+<ℤ-trans h k = omega (arith, ints)
+
+pub <ℤ-≤ℤ : {a b : ℤ} → a <ℤ b → a ≤ℤ b
+<ℤ-≤ℤ h = omega (arith, ints)
+
+pub ≤ℤ-antisym : {a b : ℤ} → a ≤ℤ b → b ≤ℤ a → a ≡ b
+≤ℤ-antisym h k = omega (arith, ints)
+
+test : (a b : ℤ) (t : Bool) → (T t → a <ℤ b) → (T (not t) → b ≤ℤ a) → (a <ℤ b) ⊎ (b ≤ℤ a)
+test a b true f g = inl (f tt)
+test a b false f g = inr (g tt)
+
+pub <ℤ-or-≥ : (a b : ℤ) → (a <ℤ b) ⊎ (b ≤ℤ a)
+<ℤ-or-≥ a b = test a b (ltZ a b) ltZ-yes ltZ-no
+
+pub ≤ℤ-total : (a b : ℤ) → (a ≤ℤ b) ⊎ (b ≤ℤ a)
+≤ℤ-total a b = go (<ℤ-or-≥ a b)
+  where
+    go : (a <ℤ b) ⊎ (b ≤ℤ a) → (a ≤ℤ b) ⊎ (b ≤ℤ a)
+    go (inl h) = inl (<ℤ-≤ℤ h)
+    go (inr h) = inr h
+
+-- a < b is a + 1 ≤ b
+pub <ℤ-suc : {a b : ℤ} → a <ℤ b ↔ (a +ℤ pos 1) ≤ℤ b
+<ℤ-suc {a} {b} = (λ (h : a <ℤ b). omega (arith, ints, add-parts a (pos 1)), λ (h : (a +ℤ pos 1) ≤ℤ b). omega (arith, ints, add-parts a (pos 1)))
+
+-- ---- sums
+pub +ℤ-mono : {a b c d : ℤ} → a ≤ℤ b → c ≤ℤ d → (a +ℤ c) ≤ℤ (b +ℤ d)
++ℤ-mono {a} {b} {c} {d} h k = omega (arith, ints, add-parts a c, add-parts b d)
+
+pub +ℤ-mono-< : {a b c d : ℤ} → a <ℤ b → c ≤ℤ d → (a +ℤ c) <ℤ (b +ℤ d)
++ℤ-mono-< {a} {b} {c} {d} h k = omega (arith, ints, add-parts a c, add-parts b d)
+
+pub +ℤ-mono-r : {a b : ℤ} (c : ℤ) → a ≤ℤ b → (a +ℤ c) ≤ℤ (b +ℤ c)
++ℤ-mono-r {a} {b} c h = omega (arith, ints, add-parts a c, add-parts b c)
+
+pub +ℤ-mono-l : {a b : ℤ} (c : ℤ) → a ≤ℤ b → (c +ℤ a) ≤ℤ (c +ℤ b)
++ℤ-mono-l {a} {b} c h = omega (arith, ints, add-parts c a, add-parts c b)
+
+pub +ℤ-cancel-≤ : {a b : ℤ} (c : ℤ) → (a +ℤ c) ≤ℤ (b +ℤ c) → a ≤ℤ b
++ℤ-cancel-≤ {a} {b} c h = omega (arith, ints, add-parts a c, add-parts b c)
+
+pub negℤ-anti : {a b : ℤ} → a ≤ℤ b → negℤ b ≤ℤ negℤ a
+negℤ-anti {a} {b} h = omega (arith, ints, up-neg a, dn-neg a, up-neg b, dn-neg b)
+
+pub sub-nonneg : {a b : ℤ} → a ≤ℤ b ↔ pos 0 ≤ℤ (b -ℤ a)
+sub-nonneg {a} {b} = (λ (h : a ≤ℤ b). omega (arith, ints, diff-parts b a), λ (h : pos 0 ≤ℤ (b -ℤ a)). omega (arith, ints, diff-parts b a))
+
+-- ---- naturals and signs
+pub pos-mono : {m n : ℕ} → m ≤ n ↔ pos m ≤ℤ pos n
+pos-mono {m} {n} = (λ (h : m ≤ n). omega (arith, ints), λ (h : pos m ≤ℤ pos n). omega (arith, ints))
+
+pub nonneg : (n : ℕ) → pos 0 ≤ℤ pos n
+nonneg n = leZ-yes (subst T (sym (leb·zero n)) tt)
+
+pub nonneg-pos : {x : ℤ} → pos 0 ≤ℤ x → x ≡ pos (natAbs x)
+nonneg-pos {x = pos n} h = refl
+nonneg-pos {x = negsuc n} h = absurd (h .le)
+
+pub neg-negsuc : {x : ℤ} → x <ℤ pos 0 → x ≡ negℤ (pos (natAbs x))
+neg-negsuc {x = pos n} h = absurd (omega (arith, ints))
+neg-negsuc {x = negsuc n} h = refl
+
+pub *ℤ-mono-r : {a b : ℤ} (c : ℤ) → pos 0 ≤ℤ c → a ≤ℤ b → (a *ℤ c) ≤ℤ (b *ℤ c)
+*ℤ-mono-r {a} {b} (pos n) p h = omega (arith, ints, mul-parts a (pos n), mul-parts b (pos n), mul-le-mul-right n (le-parts h))
+*ℤ-mono-r {a} {b} (negsuc n) p h = absurd (p .le)
+
+pub *ℤ-mono-l : {a b : ℤ} (c : ℤ) → pos 0 ≤ℤ c → a ≤ℤ b → (c *ℤ a) ≤ℤ (c *ℤ b)
+*ℤ-mono-l {a} {b} c p h = rw (*ℤ-comm c a, *ℤ-comm c b) (*ℤ-mono-r c p h)
+
+pub *ℤ-nonneg : {a b : ℤ} → pos 0 ≤ℤ a → pos 0 ≤ℤ b → pos 0 ≤ℤ (a *ℤ b)
+*ℤ-nonneg {a = pos m} {b = pos n} p q = nonneg (m * n)
+*ℤ-nonneg {a = pos m} {b = negsuc n} p q = absurd (q .le)
+*ℤ-nonneg {a = negsuc m} {b = b} p q = absurd (p .le)
+
+pub square-nonneg : (a : ℤ) → pos 0 ≤ℤ (a *ℤ a)
+square-nonneg (pos m) = nonneg (m * m)
+square-nonneg (negsuc m) = nonneg (suc m * suc m)
+
+-- for 0 ≤ c ≤ d and 0 ≤ a ≤ b
+pub *ℤ-mono : {a b c d : ℤ} → pos 0 ≤ℤ b → pos 0 ≤ℤ c → a ≤ℤ b → c ≤ℤ d → (a *ℤ c) ≤ℤ (b *ℤ d)
+*ℤ-mono {a} {b} {c} {d} p q h k = ≤ℤ-trans (*ℤ-mono-r c q h) (*ℤ-mono-l b p k)
+
+-- by a number that is not positive the order turns
+pub *ℤ-anti-r : {a b : ℤ} (c : ℤ) → c ≤ℤ pos 0 → a ≤ℤ b → (b *ℤ c) ≤ℤ (a *ℤ c)
+*ℤ-anti-r {a} {b} (pos n) p h = omega (arith, ints, mul-parts a (pos n), mul-parts b (pos n), zero-times n (up a) (pos-zero p), zero-times n (dn a) (pos-zero p), zero-times n (up b) (pos-zero p), zero-times n (dn b) (pos-zero p))
+  where
+    pos-zero : {n : ℕ} → pos n ≤ℤ pos 0 → n ≡ 0
+    pos-zero h = omega (arith, ints)
+
+    zero-times : (n m : ℕ) → n ≡ 0 → m * n ≡ 0
+    zero-times n m e = ap (λ (x : ℕ). m * x) e ∙ mul-zero m
+*ℤ-anti-r {a} {b} (negsuc n) p h = omega (arith, ints, mul-parts a (negsuc n), mul-parts b (negsuc n), mul-le-mul-right (suc n) (le-parts h))
+
+pub *ℤ-mono-< : {a b : ℤ} (c : ℤ) → pos 0 <ℤ c → a <ℤ b → (a *ℤ c) <ℤ (b *ℤ c)
+*ℤ-mono-< {a} {b} (pos n) p h = omega (arith, ints, mul-parts a (pos n), mul-parts b (pos n), mul-lt-mul-of-pos-right {k = n} (lt-parts h) (omega (arith, ints)))
+*ℤ-mono-< {a} {b} (negsuc n) p h = absurd (p .lt)
+
+pub *ℤ-pos : {a b : ℤ} → pos 0 <ℤ a → pos 0 <ℤ b → pos 0 <ℤ (a *ℤ b)
+*ℤ-pos {a} {b} h k = rw (zero-*ℤ b) at (*ℤ-mono-< b k h)
+
+-- a positive factor is struck out
+pub *ℤ-cancel-≤ : {a b : ℤ} (c : ℤ) → pos 0 <ℤ c → (a *ℤ c) ≤ℤ (b *ℤ c) → a ≤ℤ b
+*ℤ-cancel-≤ {a} {b} c p h = go (<ℤ-or-≥ b a)
+  where
+    go : (b <ℤ a) ⊎ (a ≤ℤ b) → a ≤ℤ b
+    go (inl k) = clashℤ (*ℤ-mono-< c p k) h
+    go (inr k) = k
+
+pub *ℤ-cancel : {a b : ℤ} (c : ℤ) → pos 0 <ℤ c → a *ℤ c ≡ b *ℤ c → a ≡ b
+*ℤ-cancel c p h = ≤ℤ-antisym (*ℤ-cancel-≤ c p (≤ℤ-of-≡ h)) (*ℤ-cancel-≤ c p (≤ℤ-of-≡ (sym h)))
+
+-- ---- by a combination of facts: what is left is an identity, for `ring`
+-- x - y = c * (l - r)
+pub ≡-by : (c : ℤ) {l r x y : ℤ} → l ≡ r → x +ℤ c *ℤ r ≡ y +ℤ c *ℤ l → x ≡ y
+≡-by c {l} {r} {x} {y} h e = omega (arith, ints, add-parts x (c *ℤ r), add-parts y (c *ℤ l), ap (λ (z : ℤ). up (c *ℤ z)) h, ap (λ (z : ℤ). dn (c *ℤ z)) h)
+
+-- y - x = r - l
+pub ≤-by : {l r x y : ℤ} → l ≤ℤ r → x +ℤ r ≡ y +ℤ l → x ≤ℤ y
+≤-by {l} {r} {x} {y} h e = omega (arith, ints, add-parts x r, add-parts y l)
+
+-- ---- the absolute value
+pub natAbs-negℤ : (x : ℤ) → natAbs (negℤ x) ≡ natAbs x
+natAbs-negℤ (pos zero) = refl
+natAbs-negℤ (pos (suc n)) = refl
+natAbs-negℤ (negsuc n) = refl
+
+pub natAbs-*ℤ : (x y : ℤ) → natAbs (x *ℤ y) ≡ natAbs x * natAbs y
+natAbs-*ℤ (pos a) (pos b) = refl
+natAbs-*ℤ (pos a) (negsuc b) = natAbs-negℤ (pos (a * suc b))
+natAbs-*ℤ (negsuc a) (pos b) = natAbs-negℤ (pos (suc a * b))
+natAbs-*ℤ (negsuc a) (negsuc b) = refl
+
+pub natAbs-+ℤ : (x y : ℤ) → natAbs (x +ℤ y) ≤ natAbs x + natAbs y
+natAbs-+ℤ x y = lin (x ∷ y ∷ []) (le-refl (natAbs x) & le-refl (natAbs y)) (search stmt) (omega arith)
+
+pub natAbs--ℤ : (x y : ℤ) → natAbs (x -ℤ y) ≤ natAbs x + natAbs y
+natAbs--ℤ x y = lin (x ∷ y ∷ []) (le-refl (natAbs x) & le-refl (natAbs y)) (search stmt) (omega arith)
+
+pub natAbs-triangle : (x y z : ℤ) → natAbs (x -ℤ z) ≤ natAbs (x -ℤ y) + natAbs (y -ℤ z)
+natAbs-triangle x y z = lin (x ∷ y ∷ z ∷ []) (le-refl (natAbs (x -ℤ y)) & le-refl (natAbs (y -ℤ z))) (search stmt) (omega arith)
+
+pub natAbs-swap : (x y : ℤ) → natAbs (x -ℤ y) ≡ natAbs (y -ℤ x)
+natAbs-swap x y = omega (arith, below x y, below y x)
+  where
+    below : (x y : ℤ) → natAbs (x -ℤ y) ≤ natAbs (y -ℤ x)
+    below x y = lin (x ∷ y ∷ []) (le-refl (natAbs (y -ℤ x))) (search stmt) (omega arith)
+
+pub natAbs-≤ : {x : ℤ} {n : ℕ} → natAbs x ≤ n ↔ (x ≤ℤ pos n) × (negℤ (pos n) ≤ℤ x)
+natAbs-≤ {x} {n} = (
+  λ (h : natAbs x ≤ n). (lin (x ∷ []) h (search stmt) (omega arith), lin (x ∷ []) h (search stmt) (omega arith)),
+  λ (h : (x ≤ℤ pos n) × (negℤ (pos n) ≤ℤ x)). lin (x ∷ []) (h .0 & h .1) (search stmt) (omega arith),
+)
+
+pub natAbs-sub-≤ : {x y : ℤ} {n : ℕ} → natAbs (x -ℤ y) ≤ n ↔ (x ≤ℤ (y +ℤ pos n)) × (y ≤ℤ (x +ℤ pos n))
+natAbs-sub-≤ {x} {y} {n} = (
+  λ (h : natAbs (x -ℤ y) ≤ n). (lin (x ∷ y ∷ []) h (search stmt) (omega arith), lin (x ∷ y ∷ []) h (search stmt) (omega arith)),
+  λ (h : (x ≤ℤ (y +ℤ pos n)) × (y ≤ℤ (x +ℤ pos n))). lin (x ∷ y ∷ []) (h .0 & h .1) (search stmt) (omega arith),
+)
+
+pub ≤ℤ-natAbs : (x : ℤ) → x ≤ℤ pos (natAbs x)
+≤ℤ-natAbs x = lin (x ∷ []) (le-refl (natAbs x)) (search stmt) (omega arith)
+
+pub natAbs-zero : {x : ℤ} → natAbs x ≡ 0 → x ≡ pos 0
+natAbs-zero {x} h = omega (arith, ints, abs-parts x)
+
+pub natAbs-mono : {x y : ℤ} → pos 0 ≤ℤ x → x ≤ℤ y → natAbs x ≤ natAbs y
+natAbs-mono {x} {y} p h = lin (x ∷ y ∷ []) (p & h & le-refl (natAbs y)) (search stmt) (omega arith)

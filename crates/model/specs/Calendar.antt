@@ -1,0 +1,114 @@
+-- Document 01, "Calendar years and the program".
+use Prim.Native.Nat.{ℕ, zero, suc, _+_, _-_, _*_, _/_, _%_, _^_}
+use mathlib.Core.Bool.{Bool, true, false, _&&_, cond}
+use mathlib.Core.List.{List, [], _∷_, _++_}
+use lib.Dec.{ltb, leb, eqb}
+use lib.IntN.{ℤ, pos, negsuc, _+ℤ_}
+use lib.ListN.{length, getD, drop, set, replicate}
+use Rattle.integers.specs.Sums.{sum}
+use Rattle.model.specs.Lists.{at}
+use Rattle.model.specs.declared.Tally.{Tally}
+use Rattle.model.specs.declared.Run.{Run}
+use Rattle.model.specs.declared.Run.the-variants.{Number, Wrong}
+use Rattle.model.specs.declared.FirstLine.{FirstLine}
+use Rattle.model.specs.declared.FirstLine.the-variants.{Asked, Refused}
+
+-- "signed 64 bits": -2^63 to 2^63 - 1 (negsuc n is -(n + 1))
+unfoldable pub fits64 : ℤ → Bool
+fits64 (pos n) = ltb n (2 ^ 63)
+fits64 (negsuc n) = ltb n (2 ^ 63)
+
+-- "Adding one cell to the calendar-year tally gives the next tally. A calendar year outside 1 to 38, or a sum past signed 64 bits, gives the same tally back."
+unfoldable pub tallyAdd : Tally → ℕ → ℤ → ℤ → Tally
+tallyAdd t year x y =
+    let a = at (t .rbns) (year - 1) +ℤ x in
+    let b = at (t .ibnr) (year - 1) +ℤ y in
+    cond (leb 1 year && leb year 38 && fits64 a && fits64 b) (record { rbns = set (t .rbns) (year - 1) a; ibnr = set (t .ibnr) (year - 1) b }) t
+
+-- the tally before any cell
+abbrev pub emptyTally : Tally
+emptyTally = record { rbns = replicate 38 (pos 0); ibnr = replicate 38 (pos 0) }
+
+-- "Calendar year t = i + j - m", of the n-th cell of the output: 0 where the cell is known
+abbrev pub calendarYear : ℕ → ℕ → ℕ
+calendarYear m n = n / (2 * m - 1) + 1 + n % (2 * m - 1) - m
+
+-- the tally of the first n cells of an output
+unfoldable pub tallyTo : ℕ → List ℤ → ℕ → Tally
+tallyTo m out zero = emptyTally
+tallyTo m out (suc n) = tallyAdd (tallyTo m out n) (calendarYear m n) (at out (2 * n)) (at out (2 * n + 1))
+
+-- of all m(2m-1) cells
+unfoldable pub tallyOf : ℕ → List ℤ → Tally
+tallyOf m out = tallyTo m out (m * (2 * m - 1))
+
+-- the decimal digits of n in ASCII, most significant first, with no leading zero: at most `fuel` of them
+unfoldable pub digitsIn : ℕ → ℕ → List ℕ
+digitsIn zero n = []
+digitsIn (suc fuel) n = elim (ltb n 10) [ true ↦ (48 + n) ∷ [] | false ↦ digitsIn fuel (n / 10) ++ ((48 + n % 10) ∷ []) ]
+
+-- the same, all of them: there are at most n + 1
+unfoldable pub digits : ℕ → List ℕ
+digits n = digitsIn (suc n) n
+
+-- "a minus sign before a negative amount"
+unfoldable pub amount : ℤ → List ℕ
+amount (pos n) = digits n
+amount (negsuc n) = 45 ∷ digits (suc n)
+
+-- "One space stands between fields, .. a newline after each line.": RBNS, IBNR and their sum, after the line's name
+unfoldable pub line : List ℕ → ℤ → ℤ → List ℕ
+line name x y = name ++ (32 ∷ []) ++ amount x ++ (32 ∷ []) ++ amount y ++ (32 ∷ []) ++ amount (x +ℤ y) ++ (10 ∷ [])
+
+-- "It prints for each t: t, RBNS, IBNR, their sum": the lines of years 1 to n
+unfoldable pub lines : Tally → ℕ → List ℕ
+lines t zero = []
+lines t (suc n) = lines t n ++ line (digits (suc n)) (at (t .rbns) n) (at (t .ibnr) n)
+
+-- "Calendar year t .. 1 to 2m - 2"; "then T and the totals" (84 is T)
+unfoldable pub page : ℕ → Tally → List ℕ
+page m t = lines t (2 * m - 2) ++ line (84 ∷ []) (sum (2 * m - 2) (at (t .rbns))) (sum (2 * m - 2) (at (t .ibnr)))
+
+-- "A refusal prints "refused n" and a newline, nothing else."
+unfoldable pub refusalText : ℕ → List ℕ
+refusalText n = (114 ∷ 101 ∷ 102 ∷ 117 ∷ 115 ∷ 101 ∷ 100 ∷ 32 ∷ []) ++ digits n ++ (10 ∷ [])
+
+-- the decimal digits that s starts with
+unfoldable pub front : List ℕ → List ℕ
+front [] = []
+front (b ∷ s) = elim (leb 48 b && leb b 57) [ true ↦ b ∷ front s | false ↦ [] ]
+
+-- the number that digits say, read after digits that said v
+unfoldable pub valueFrom : ℕ → List ℕ → ℕ
+valueFrom v [] = v
+valueFrom v (b ∷ s) = valueFrom (v * 10 + (b - 48)) s
+
+-- "runs of one to four decimal digits": at place a of s, and then the byte end; its number and the place after that byte
+unfoldable pub runAt : List ℕ → ℕ → ℕ → Run
+runAt s a end =
+    let d = front (drop a s) in
+    cond (leb 1 (length d) && leb (length d) 4 && eqb (getD s (a + length d) 0) end) (Number (valueFrom 0 d) (a + length d + 1)) Wrong
+
+-- "The first line is three runs .., one space between each, ended by a newline; any other first line is 1."
+unfoldable pub third : ℕ → ℕ → Run → FirstLine
+third m method Wrong = Refused
+third m method (Number basis a) = Asked m method basis a
+
+-- the second run, ended by a space
+unfoldable pub second : List ℕ → ℕ → Run → FirstLine
+second s m Wrong = Refused
+second s m (Number method a) = third m method (runAt s a 10)
+
+-- the first run, ended by a space
+unfoldable pub first : List ℕ → Run → FirstLine
+first s Wrong = Refused
+first s (Number m a) = second s m (runAt s a 32)
+
+-- what the first line asks
+unfoldable pub firstLine : List ℕ → FirstLine
+firstLine s = first s (runAt s 0 32)
+
+-- "any other first line is 1": the refusal number of each case, 0 for none
+unfoldable pub refusalOf : FirstLine → ℕ
+refusalOf (Asked m method basis a) = 0
+refusalOf Refused = 1

@@ -1,0 +1,161 @@
+-- The whole answer of each public call, refusals included: what it hands back, and what the lent memory holds afterwards.
+use Prim.Native.Nat.{ℕ, _-_}
+use mathlib.Core.Path.{_≡_}
+use mathlib.Core.Bool.{Bool, true, false, cond}
+use mathlib.Core.List.{List, [], _∷_, _++_}
+use lib.Dec.{eqb, leb}
+use lib.IntN.{ℤ, pos}
+use lib.ListN.{length, take, drop, replicate}
+use Rattle.model.specs.Records.{setOf, givenSet, setLength, hasIncurred}
+use Rattle.model.specs.Shares.{gList, bList, ultimates}
+use Rattle.model.specs.Delays.{delaysOf}
+use Rattle.model.specs.RowBases.{leftOvers}
+use Rattle.model.specs.Cells.{size, outputFrom}
+use Rattle.model.specs.PaidReserve.{NearReserves}
+use Rattle.model.specs.Calendar.{tallyOf, page, refusalText, firstLine, refusalOf}
+use Rattle.model.specs.ClaimCosts.{claimCosts, noClaimCosts}
+use Rattle.model.specs.BackTest.{cutTo, gap, cellNumber, errorByCell, errorByYear, errorInAll}
+use Rattle.model.specs.Questions.{Question, firstNo, ofFile, ofShares, ofDelays, ofForecast, q1, q4, q5Writer, q6, q7, q7Writer, q8}
+use Rattle.model.specs.declared.TriangleSet.{TriangleSet}
+use Rattle.model.specs.declared.ReadAnswer.{ReadAnswer}
+use Rattle.model.specs.declared.SharesAnswer.{SharesAnswer}
+use Rattle.model.specs.declared.DelaysAnswer.{DelaysAnswer}
+use Rattle.model.specs.declared.ForecastAnswer.{ForecastAnswer}
+use Rattle.model.specs.declared.ClaimCostsAnswer.{ClaimCostsAnswer}
+use Rattle.model.specs.declared.BackTestAnswer.{BackTestAnswer}
+use Rattle.model.specs.declared.FirstLine.{FirstLine}
+use Rattle.model.specs.declared.FirstLine.the-variants.{Asked, Refused}
+
+-- what a call with the refusal number n hands back: that of an accepted call where n is 0, else that of a refused one
+abbrev pub ifAccepted : {A : Type 0} → ℕ → A → A → A
+ifAccepted n accepted refused = cond (eqb n 0) accepted refused
+
+-- "On a refusal every value handed back beside the refusal number is 0"
+abbrev pub zeros : ℕ → List ℤ
+zeros n = replicate n (pos 0)
+
+-- ---- the reader: "The reader by itself takes 1 to 5."
+
+unfoldable pub readRefusal : ℕ → List ℕ → ℕ
+readRefusal m f = firstNo (ofFile m f)
+
+abbrev pub noSet : TriangleSet
+noSet = record { three = false; counts = zeros 400; paid = zeros 400; incurred = zeros 400 }
+
+unfoldable pub readAnswer : ℕ → List ℕ → ReadAnswer
+readAnswer m f = let n = readRefusal m f in record { refusal = n; set = ifAccepted n (setOf m f) noSet }
+
+-- ---- the writer: "The writer takes 1, 5 and 7"
+
+unfoldable pub writeRefusal : ℕ → Bool → List ℤ → List ℤ → List ℤ → ℕ → ℕ
+writeRefusal m three c d e room = firstNo ((1, q1 m) ∷ (5, q5Writer m three c d e) ∷ (7, q7Writer m three room) ∷ [])
+
+-- The output before and after, and the refusal number n. The order of the records is free; what holds of the bytes is named by the fields:
+-- "it writes each cell of the set once and nothing else" (once: question 4 of the bytes written, which are the set's length),
+-- "what it writes reads back as that set" (written), "Bytes past the set keep their values" (kept).
+pub record Wrote (m : ℕ) (three : Bool) (c d e : List ℤ) (before after : List ℕ) (n : ℕ) : Type 0 where
+  pub result : n ≡ writeRefusal m three c d e (length before)
+  pub refused : (n ≡ 0 → ⊥) → after ≡ before
+  pub once : n ≡ 0 → (length (take (setLength m three) after) ≡ setLength m three) × (q4 m (take (setLength m three) after) ≡ true)
+  pub written : n ≡ 0 → readAnswer m (take (setLength m three) after) ≡ record { refusal = 0; set = givenSet m three c d e }
+  pub kept : n ≡ 0 → drop (setLength m three) after ≡ drop (setLength m three) before
+
+-- ---- shares and ultimates: "a call that takes 1 to 5 and 9 to 11"
+
+unfoldable pub sharesRefusal : ℕ → List ℕ → ℕ
+sharesRefusal m f = firstNo (ofFile m f ++ ofShares m (setOf m f))
+
+unfoldable pub sharesOf : ℕ → TriangleSet → SharesAnswer
+sharesOf m s =
+    record {
+      refusal = 0;
+      b = bList m (s .counts);
+      n = ultimates m (s .counts);
+      q = bList m (s .paid);
+      g = gList m (s .paid);
+      u = ultimates m (s .paid);
+    }
+
+abbrev pub noShares : ℕ → SharesAnswer
+noShares k = record { refusal = k; b = zeros 20; n = zeros 20; q = zeros 20; g = zeros 20; u = zeros 20 }
+
+unfoldable pub sharesAnswer : ℕ → List ℕ → SharesAnswer
+sharesAnswer m f = let n = sharesRefusal m f in ifAccepted n (sharesOf m (setOf m f)) (noShares n)
+
+-- ---- delays: "the delays from one that takes 12 too"
+
+unfoldable pub delaysRefusal : ℕ → List ℕ → ℕ
+delaysRefusal m f = let s = setOf m f in firstNo (ofFile m f ++ ofShares m s ++ ofDelays m (delaysOf m s))
+
+unfoldable pub delaysAnswer : ℕ → List ℕ → DelaysAnswer
+delaysAnswer m f = let n = delaysRefusal m f in record { refusal = n; p = ifAccepted n (delaysOf m (setOf m f)) (zeros 20) }
+
+-- ---- the forecast: 1 to 14, without 8
+
+unfoldable pub forecastRefusal : ℕ → List ℕ → ℕ → ℕ → ℕ → ℕ
+forecastRefusal m f method basis room =
+    let s = setOf m f in
+    firstNo (ofFile m f ++ ((6, q6 (hasIncurred m f) method basis) ∷ (7, q7 m room) ∷ []) ++ ofForecast m s (delaysOf m s) method)
+
+unfoldable pub forecastAnswer : ℕ → List ℕ → ℕ → ℕ → ℕ → ForecastAnswer
+forecastAnswer m f method basis room =
+    let n = forecastRefusal m f method basis room in
+    record { refusal = n; leftovers = ifAccepted n (leftOvers m (setOf m f) method) (zeros 20) }
+
+-- the output afterwards: "lent memory keeps its entry values" on a refusal
+unfoldable pub forecastOutput : ℕ → List ℕ → ℕ → ℕ → List ℤ → List ℤ
+forecastOutput m f method basis before =
+    let s = setOf m f in
+    ifAccepted (forecastRefusal m f method basis (length before)) (outputFrom m s (delaysOf m s) method basis before) before
+
+-- What the forecast hands back and leaves in the output. "A file is accepted when every question that the forecast puts gets a yes."; "Plain DCL with
+-- estimated counts is method 0, basis 1."
+pub record Forecasted (m : ℕ) (f : List ℕ) (method basis : ℕ) (before after : List ℤ) (a : ForecastAnswer) : Type 0 where
+  pub result : a ≡ forecastAnswer m f method basis (length before)
+  pub output : after ≡ forecastOutput m f method basis before
+  pub reserve : a .refusal ≡ 0 → method ≡ 0 → basis ≡ 1 → NearReserves m (setOf m f .paid) after
+
+-- ---- claim costs: "The card skips 6, 7, 8 and 12 to 14."
+
+unfoldable pub claimCostsAnswer : ℕ → List ℕ → ClaimCostsAnswer
+claimCostsAnswer m f = let n = sharesRefusal m f in record { refusal = n; costs = ifAccepted n (claimCosts m (setOf m f)) noClaimCosts }
+
+-- ---- the back-test: "skips 7; from 9 on it puts the questions to the cut set"
+
+unfoldable pub backTestRefusal : ℕ → List ℕ → ℕ → ℕ → ℕ → ℕ
+backTestRefusal m f c method basis =
+    let s = cutTo (m - c) (setOf m f) in
+    firstNo (ofFile m f ++ ((6, q6 (hasIncurred m f) method basis) ∷ (8, q8 m c) ∷ []) ++ ofForecast (m - c) s (delaysOf (m - c) s) method)
+
+unfoldable pub backTestOf : ℕ → TriangleSet → ℕ → ℕ → ℕ → BackTestAnswer
+backTestOf m s c method basis =
+    let n = m - c in
+    let p = delaysOf n (cutTo n s) in
+    let d : ℕ → ℕ → ℤ = gap m n s p method basis in
+    record { refusal = 0; cells = cellNumber c n; cellwise = errorByCell n d; yearwise = errorByYear n c d; overall = errorInAll n d }
+
+unfoldable pub backTestAnswer : ℕ → List ℕ → ℕ → ℕ → ℕ → BackTestAnswer
+backTestAnswer m f c method basis =
+    let n = backTestRefusal m f c method basis in
+    ifAccepted n (backTestOf m (setOf m f) c method basis) (record { refusal = n; cells = 0; cellwise = 0; yearwise = 0; overall = 0 })
+
+-- ---- the program `closing`: the text that it prints, for the bytes of its standard input
+
+-- 1560 entries, room for m = 20
+unfoldable pub closingOf : List ℕ → FirstLine → List ℕ
+closingOf s Refused = refusalText (refusalOf Refused)
+closingOf s (Asked m method basis a) =
+    let f = drop a s in
+    let n = forecastRefusal m f method basis 1560 in
+    ifAccepted n (page m (tallyOf m (forecastOutput m f method basis (zeros 1560)))) (refusalText n)
+
+unfoldable pub closingText : List ℕ → List ℕ
+closingText s = closingOf s (firstLine s)
+
+-- the call behind the program, `respond`: the text's length, or 0 where the output is too short for the text
+unfoldable pub respondAnswer : List ℕ → List ℕ → ℕ
+respondAnswer s before = let t = closingText s in cond (leb (length t) (length before)) (length t) 0
+
+-- the output afterwards: the text and then what stood there, or, too short, as it was
+unfoldable pub respondOutput : List ℕ → List ℕ → List ℕ
+respondOutput s before = let t = closingText s in cond (leb (length t) (length before)) (t ++ drop (length t) before) before

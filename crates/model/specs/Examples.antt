@@ -1,0 +1,213 @@
+-- Document 01, "Examples from a small shelf": one table, held to the definitions of the calls by computation.
+use Prim.Native.Nat.{ℕ, zero, suc, _+_, _*_, _-_, _/_, _%_, _^_}
+use mathlib.Core.Path.{_≡_, refl}
+use mathlib.Core.Bool.{Bool, true, false, _&&_, cond}
+use mathlib.Core.List.{List, [], _∷_, _++_}
+use lib.Dec.{T, eqb}
+use lib.IntN.{ℤ, pos, negsuc, negℤ, _+ℤ_}
+use lib.ListN.{length, getD, drop, replicate}
+use Rattle.integers.specs.Sums.{sum}
+use Rattle.model.specs.Lists.{tabulate, listed, at, every, total, count}
+use Rattle.model.specs.Records.{triangle, sparesZero, leastFirst, signed, valueAt, isOf, copies, valueOf, hasIncurred, setOf, givenSet, inRange}
+use Rattle.model.specs.Rounding.{S, nearest, r}
+use Rattle.model.specs.Shares as Shares
+use Rattle.model.specs.Shares.{C, latest, B, A, gDown, g, ultimate, gList, bList, ultimates}
+use Rattle.model.specs.Delays.{delayAfter, delaysTo, delays, delaysOf}
+use Rattle.model.specs.RowBases as RowBases
+use Rattle.model.specs.RowBases.{W, R, R*, rowBase, leftOver, leftOvers}
+use Rattle.model.specs.Cells.{sList, pairs, rbnsFrom, ibnrFrom, rbns, ibnr, placeOf, size, entry, entries, outputFrom}
+use Rattle.model.specs.Calendar.{fits64, tallyAdd, tallyTo, tallyOf, digitsIn, digits, amount, line, lines, page, refusalText, front, valueFrom, runAt, third, second, first, firstLine, refusalOf}
+use Rattle.model.specs.BackTest.{cutTo, compared, gap, cellNumber, errorByCell, yearGap, errorByYear, errorInAll}
+use Rattle.model.specs.Questions.{q1, q2, q3, q4, q5, q6, q7, q8, q9, q10, q11, q12, q13, q14, kinds, recordOk, eachCell, firstNo, ofRecords, ofFile, ofShares, ofDelays, ofMethod, ofForecast}
+use Rattle.model.specs.Calls.{readRefusal, sharesRefusal, sharesOf, sharesAnswer, delaysRefusal, delaysAnswer, forecastRefusal, forecastAnswer, forecastOutput, backTestRefusal, backTestOf, backTestAnswer, closingOf, closingText}
+
+-- ---- the sets
+
+-- m, and the file
+pub data Example : Type 0 where
+  set : ℕ → List ℕ → Example
+
+-- n bytes of a number, least byte first
+unfoldable pub bytes : ℕ → ℕ → List ℕ
+bytes zero x = []
+bytes (suc n) x = (x % 256) ∷ bytes n (x / 256)
+
+-- the record of kind t, year i, delay j and value x
+unfoldable pub rec : ℕ → ℕ → ℕ → ℕ → List ℕ
+rec t i j x = t ∷ i ∷ j ∷ 0 ∷ 0 ∷ 0 ∷ 0 ∷ 0 ∷ bytes 8 x
+
+-- row i of kind t, from delay j on
+unfoldable pub rowOf : ℕ → ℕ → ℕ → List ℕ → List ℕ
+rowOf t i j [] = []
+rowOf t i j (x ∷ xs) = rec t i j x ++ rowOf t i (j + 1) xs
+
+-- the rows x, y / z of kind t, of a set with m = 2
+unfoldable pub two : ℕ → ℕ → ℕ → ℕ → List ℕ
+two t x y z = rowOf t 1 0 (x ∷ y ∷ []) ++ rowOf t 2 0 (z ∷ [])
+
+-- "Set K, m = 2: counts 80, 20 / 90; paid 600, 400 / 660; incurred 900, 100 / 1080."
+unfoldable pub K : Example
+K = set 2 (two 0 80 20 90 ++ two 1 600 400 660 ++ two 2 900 100 1080)
+
+-- "Counts 25, 75 / 50, paid 750, 250 / 750"
+unfoldable pub late : Example
+late = set 2 (two 0 25 75 50 ++ two 1 750 250 750)
+
+-- "Paid 751, 249 instead"
+unfoldable pub later : Example
+later = set 2 (two 0 25 75 50 ++ two 1 751 249 750)
+
+-- "Row 1 counts 1, 1000" (the rest as in K), and "With 1, 999"
+unfoldable pub thousand : Example
+thousand = set 2 (two 0 1 1000 90 ++ two 1 600 400 660)
+
+unfoldable pub thousandLess : Example
+thousandLess = set 2 (two 0 1 999 90 ++ two 1 600 400 660)
+
+-- "Back-test, m = 3, c = 1: counts 80, 20, 0 / 90, 25 / 100, paid 600, 400, 50 / 660, 430 / 700"
+unfoldable pub past : Example
+past =
+    set 3
+    (rowOf 0 1 0 (80 ∷ 20 ∷ 0 ∷ []) ++ rowOf 0 2 0 (90 ∷ 25 ∷ []) ++ rowOf 0 3 0 (100 ∷ [])
+    ++ rowOf 1 1 0 (600 ∷ 400 ∷ 50 ∷ []) ++ rowOf 1 2 0 (660 ∷ 430 ∷ []) ++ rowOf 1 3 0 (700 ∷ []))
+
+-- ---- what is asked, and what the calls answer
+
+-- methods and bases are named before years and delays, as in document 01's "DCL, basis 1, year 2: delay 1"
+pub data Asked : Type 0 where
+  b q p : ℕ → Asked
+  U N : ℕ → Asked
+  base : ℕ → ℕ → Asked
+  RBNS IBNR : ℕ → ℕ → ℕ → ℕ → Asked
+  refusal : ℕ → ℕ → Asked
+  sharesRefused : Asked
+  countG : ℕ → Asked
+  tested : ℕ → ℕ → ℕ → ℕ → Asked
+  testedCell : ℕ → ℕ → ℕ → ℕ → ℕ → Asked
+
+-- the output before a forecast: one entry more than it fills
+unfoldable pub out : ℕ → List ℤ
+out m = replicate (size m + 1) (pos 7)
+
+-- the four numbers of a back-test
+unfoldable pub figures : ℕ → List ℕ → ℕ → ℕ → ℕ → List ℤ
+figures m f c method basis =
+    let t = backTestAnswer m f c method basis in
+    pos (t .cells) ∷ pos (t .cellwise) ∷ pos (t .yearwise) ∷ pos (t .overall) ∷ []
+
+unfoldable pub answer : ℕ → List ℕ → Asked → ℤ
+answer m f (b j) = at (sharesAnswer m f .b) j
+answer m f (q j) = at (sharesAnswer m f .q) j
+answer m f (p l) = at (delaysAnswer m f .p) l
+answer m f (U i) = at (sharesAnswer m f .u) (i - 1)
+answer m f (N i) = at (sharesAnswer m f .n) (i - 1)
+answer m f (base method i) = rowBase m (setOf m f) method i
+answer m f (RBNS method basis i j) = at (forecastOutput m f method basis (out m)) (placeOf m i j)
+answer m f (IBNR method basis i j) = at (forecastOutput m f method basis (out m)) (placeOf m i j + 1)
+answer m f (refusal method basis) = pos (forecastAnswer m f method basis (size m) .refusal)
+answer m f sharesRefused = pos (sharesAnswer m f .refusal)
+answer m f (countG j) = g m (setOf m f .counts) j
+answer m f (tested c method basis k) = at (figures m f c method basis) k
+answer m f (testedCell c method basis i j) =
+    let s = cutTo (m - c) (setOf m f) in
+    let d = delaysOf (m - c) s in
+    rbns (m - c) s d method basis i j +ℤ ibnr (m - c) s d method i j
+
+unfoldable pub answerOf : Example → Asked → ℤ
+answerOf (set m f) a = answer m f a
+
+-- a row of the table: a set, what is asked of it, and the value that document 01 states
+pub data Row : Type 0 where
+  row : Example → Asked → ℤ → Row
+
+abbrev pub same : ℤ → ℤ → Bool
+same (pos x) (pos y) = eqb x y
+same (pos x) (negsuc y) = false
+same (negsuc x) (pos y) = false
+same (negsuc x) (negsuc y) = eqb x y
+
+-- each row's value is what the calls answer
+unfoldable pub right : List Row → Bool
+right [] = true
+right (row e a z ∷ rows) = same (answerOf e a) z && right rows
+
+-- ---- the joint table of the examples marked (P)
+
+unfoldable pub table : List Row
+table =
+    -- "b = 0.8, 0.2 and q = 0.6, 0.4 of S"
+    row K (b 0) (pos 800000000) ∷ row K (b 1) (pos 200000000)
+    ∷ row K (q 0) (pos 600000000) ∷ row K (q 1) (pos 400000000)
+    -- "p = 750,000,000 and 312,500,000"
+    ∷ row K (p 0) (pos 750000000) ∷ row K (p 1) (pos 312500000)
+    -- "U = 1000, 1100"; "N = 100, 113"
+    ∷ row K (U 1) (pos 1000) ∷ row K (U 2) (pos 1100) ∷ row K (N 1) (pos 100) ∷ row K (N 2) (pos 113)
+    -- "DCL, basis 1, year 2: delay 1 RBNS 275, IBNR 165 ..; delay 2: 0 and 69."
+    ∷ row K (RBNS 0 1 2 1) (pos 275) ∷ row K (IBNR 0 1 2 1) (pos 165) ∷ row K (RBNS 0 1 2 2) (pos 0) ∷ row K (IBNR 0 1 2 2) (pos 69)
+    -- "Year 1, delay 2: 63 and 0"
+    ∷ row K (RBNS 0 1 1 2) (pos 63) ∷ row K (IBNR 0 1 1 2) (pos 0)
+    -- "BDCL V(2) = 1200: delay 1 is 300 and 180."
+    ∷ row K (base 1 2) (pos 1200) ∷ row K (RBNS 1 1 2 1) (pos 300) ∷ row K (IBNR 1 1 2 1) (pos 180)
+    -- "IDCL V(2) = 1350: 338 and 203."
+    ∷ row K (base 2 2) (pos 1350) ∷ row K (RBNS 2 1 2 1) (pos 338) ∷ row K (IBNR 2 1 2 1) (pos 203)
+    -- "delays 3 × 10^9 and -8 × 10^9, accepted; year 2, delay 1 is -2000 and 2250."
+    ∷ row late (p 0) (pos (3 * 10 ^ 9)) ∷ row late (p 1) (negℤ (pos (8 * 10 ^ 9))) ∷ row late (refusal 0 1) (pos 0)
+    ∷ row late (RBNS 0 1 2 1) (negℤ (pos 2000)) ∷ row late (IBNR 0 1 2 1) (pos 2250)
+    -- "Paid 751, 249 instead: refused 12."
+    ∷ row later (refusal 0 1) (pos 12)
+    ∷ []
+
+-- ---- the other examples
+
+unfoldable pub others : List Row
+others =
+    -- "Row 1 counts 1, 1000: g(0) = 999,001, refused 11. With 1, 999, question 11 is passed."
+    row thousand (countG 0) (pos 999001) ∷ row thousand (refusal 0 1) (pos 11) ∷ row thousandLess sharesRefused (pos 0)
+    -- "one cell, forecast 440, errors 10, 10, 10."
+    ∷ row past (tested 1 0 1 0) (pos 1) ∷ row past (testedCell 1 0 1 2 1) (pos 440)
+    ∷ row past (tested 1 0 1 1) (pos 10) ∷ row past (tested 1 0 1 2) (pos 10) ∷ row past (tested 1 0 1 3) (pos 10)
+    ∷ []
+
+-- "2 0 1", a newline, and K without incurred
+unfoldable pub asked : List ℕ
+asked = (50 ∷ 32 ∷ 48 ∷ 32 ∷ 49 ∷ 10 ∷ []) ++ two 0 80 20 90 ++ two 1 600 400 660
+
+-- "1 338 165 503", "2 0 69 69", "T 338 234 572"
+unfoldable pub printed : List ℕ
+printed =
+    49 ∷ 32 ∷ 51 ∷ 51 ∷ 56 ∷ 32 ∷ 49 ∷ 54 ∷ 53 ∷ 32 ∷ 53 ∷ 48 ∷ 51 ∷ 10
+    ∷ 50 ∷ 32 ∷ 48 ∷ 32 ∷ 54 ∷ 57 ∷ 32 ∷ 54 ∷ 57 ∷ 10
+    ∷ 84 ∷ 32 ∷ 51 ∷ 51 ∷ 56 ∷ 32 ∷ 50 ∷ 51 ∷ 52 ∷ 32 ∷ 53 ∷ 55 ∷ 50 ∷ 10
+    ∷ []
+
+-- ---- the theorems
+
+-- what the computation opens: every definition above this file, and those of this file
+unfoldable pub opened : ℕ
+unfolding
+    tabulate listed every total count sum
+    triangle sparesZero leastFirst signed valueAt isOf copies valueOf hasIncurred setOf givenSet inRange
+    S nearest r
+    C latest B A gDown g Shares.b ultimate gList bList ultimates
+    delayAfter delaysTo delays delaysOf
+    RowBases.U W R R* rowBase leftOver leftOvers
+    sList pairs rbnsFrom ibnrFrom rbns ibnr entry entries outputFrom
+    fits64 tallyAdd tallyTo tallyOf digitsIn digits amount line lines page refusalText front valueFrom runAt third second first firstLine refusalOf
+    cutTo compared gap cellNumber errorByCell yearGap errorByYear errorInAll
+    q1 q2 q3 q4 q5 q6 q7 q8 q9 q10 q11 q12 q13 q14 kinds recordOk eachCell firstNo ofRecords ofFile ofShares ofDelays ofMethod ofForecast
+    readRefusal sharesRefusal sharesOf sharesAnswer delaysRefusal delaysAnswer forecastRefusal forecastAnswer forecastOutput backTestRefusal backTestOf backTestAnswer closingOf closingText
+    bytes rec rowOf two K late later thousand thousandLess past out figures answer answerOf right table others asked printed
+opened = 0
+
+-- the definitions give every value of the table
+pub examples : T (right table)
+unfolding opened
+examples = tt
+
+pub other-examples : T (right others)
+unfolding opened
+other-examples = tt
+
+pub closing-example : closingText asked ≡ printed
+unfolding opened
+closing-example = refl

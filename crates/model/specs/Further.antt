@@ -1,0 +1,170 @@
+-- Examples of our own, for what document 01's examples leave open. The values are those of an independent calculation with big numbers.
+use Prim.Native.Nat.{ℕ, _-_, _^_}
+use mathlib.Core.Path.{_≡_, refl}
+use mathlib.Core.Bool.{Bool, true, false, _&&_}
+use mathlib.Core.List.{List, [], _∷_, _++_}
+use lib.Dec.{T, eqb}
+use lib.IntN.{ℤ, pos, negsuc, negℤ, _*ℤ_}
+use lib.ListN.{take, replicate, set}
+use lib.Ieee.{fin, div, ofInt}
+use Rattle.model.specs.Records.{givenSet, setOf}
+use Rattle.model.specs.PaidReserve.{Fraction, GDown, G, H, reserve, bound}
+use Rattle.model.specs.ClaimCosts.{quotient, meanCost, factor, inflation, claimCosts, noClaimCosts, yearInflation}
+use Rattle.model.specs.Questions.{q5Writer, q7Writer}
+use Rattle.model.specs.Calls.{readAnswer, writeRefusal, forecastAnswer, forecastOutput, claimCostsAnswer, closingText}
+use Rattle.model.specs.Examples.{rec, rowOf, two, same, figures, opened, asked}
+use Rattle.model.specs.declared.Inflation.the-variants.{BaseYear, NoPaymentsYet, Ratio}
+
+-- ---- the sets
+
+-- -n as the 64 bits of a value
+abbrev pub minus : ℕ → ℕ
+minus n = 2 ^ 64 - n
+
+-- the bytes of set K
+unfoldable pub K : List ℕ
+K = two 0 80 20 90 ++ two 1 600 400 660 ++ two 2 900 100 1080
+
+-- m = 3: negative incurred cells, and row bases below zero under IDCL
+unfoldable pub negative : List ℕ
+negative =
+    rowOf 0 1 0 (80 ∷ 20 ∷ 10 ∷ []) ++ rowOf 0 2 0 (90 ∷ 25 ∷ []) ++ rowOf 0 3 0 (100 ∷ [])
+    ++ rowOf 1 1 0 (600 ∷ 400 ∷ 50 ∷ []) ++ rowOf 1 2 0 (660 ∷ 430 ∷ []) ++ rowOf 1 3 0 (700 ∷ [])
+    ++ rowOf 2 1 0 (1500 ∷ minus 300 ∷ minus 100 ∷ []) ++ rowOf 2 2 0 (1500 ∷ minus 600 ∷ []) ++ rowOf 2 3 0 (800 ∷ [])
+
+-- m = 3: no payments yet in years 2 and 3
+unfoldable pub unpaid : List ℕ
+unpaid =
+    rowOf 0 1 0 (80 ∷ 20 ∷ 10 ∷ []) ++ rowOf 0 2 0 (90 ∷ 25 ∷ []) ++ rowOf 0 3 0 (100 ∷ [])
+    ++ rowOf 1 1 0 (600 ∷ 400 ∷ 50 ∷ []) ++ rowOf 1 2 0 (0 ∷ 0 ∷ []) ++ rowOf 1 3 0 (0 ∷ [])
+    ++ rowOf 2 1 0 (900 ∷ 100 ∷ 50 ∷ []) ++ rowOf 2 2 0 (1000 ∷ minus 200 ∷ []) ++ rowOf 2 3 0 (1080 ∷ [])
+
+-- m = 3: reserves of years 2 and 3 that round away
+unfoldable pub settled : List ℕ
+settled =
+    rowOf 0 1 0 (80 ∷ 20 ∷ 10 ∷ []) ++ rowOf 0 2 0 (90 ∷ 25 ∷ []) ++ rowOf 0 3 0 (100 ∷ [])
+    ++ rowOf 1 1 0 (99000 ∷ 900 ∷ 100 ∷ []) ++ rowOf 1 2 0 (200 ∷ 3 ∷ []) ++ rowOf 1 3 0 (40 ∷ [])
+    ++ rowOf 2 1 0 (99000 ∷ 900 ∷ 100 ∷ []) ++ rowOf 2 2 0 (290 ∷ 10 ∷ []) ++ rowOf 2 3 0 (12 ∷ [])
+
+-- m = 3: few counts, so that the rounding of the weights of basis 0 shows
+unfoldable pub few : List ℕ
+few =
+    rowOf 0 1 0 (1 ∷ 1 ∷ 1 ∷ []) ++ rowOf 0 2 0 (2 ∷ 1 ∷ []) ++ rowOf 0 3 0 (1 ∷ [])
+    ++ rowOf 1 1 0 (6000000000 ∷ 3000000000 ∷ 1000000000 ∷ []) ++ rowOf 1 2 0 (7000000000 ∷ 2500000000 ∷ []) ++ rowOf 1 3 0 (6400000001 ∷ [])
+
+-- m = 4, for a back-test
+unfoldable pub four : List ℕ
+four =
+    rowOf 0 1 0 (50 ∷ 30 ∷ 15 ∷ 5 ∷ []) ++ rowOf 0 2 0 (60 ∷ 33 ∷ 20 ∷ []) ++ rowOf 0 3 0 (55 ∷ 40 ∷ []) ++ rowOf 0 4 0 (70 ∷ [])
+    ++ rowOf 1 1 0 (500 ∷ 300 ∷ 100 ∷ 60 ∷ []) ++ rowOf 1 2 0 (620 ∷ 350 ∷ 90 ∷ []) ++ rowOf 1 3 0 (540 ∷ 410 ∷ []) ++ rowOf 1 4 0 (690 ∷ [])
+
+-- ---- the tests
+
+-- two lists hold the same numbers
+unfoldable pub sameList : List ℤ → List ℤ → Bool
+sameList [] [] = true
+sameList [] (y ∷ ys) = false
+sameList (x ∷ xs) [] = false
+sameList (x ∷ xs) (y ∷ ys) = same x y && sameList xs ys
+
+-- a fraction equals a / b, compared multiplied out
+unfoldable pub sameFraction : Fraction → ℤ → ℤ → Bool
+sameFraction x a b = same (x .upper *ℤ b) (a *ℤ x .lower)
+
+unfoldable pub allTrue : List Bool → Bool
+allTrue [] = true
+allTrue (t ∷ ts) = t && allTrue ts
+
+-- the refusal number of a forecast of a file with m = 2
+unfoldable pub refused : List ℕ → ℕ → ℕ → Bool
+refused f method n = eqb (forecastAnswer 2 f method 1 12 .refusal) n
+
+-- the left overs of IDCL, basis 1, of a file with m = 3
+unfoldable pub leftOver3 : List ℕ → List ℤ → Bool
+leftOver3 f xs = sameList (take 3 (forecastAnswer 3 f 2 1 30 .leftovers)) xs
+
+-- one count in each row, and paid x, y / z; with incurred
+unfoldable pub ones : ℕ → ℕ → ℕ → List ℕ
+ones x y z = two 0 1 0 1 ++ two 1 x y z
+
+-- -n
+abbrev pub less : ℕ → ℤ
+less n = negℤ (pos n)
+
+-- every entry of a forecast, and one past them that keeps its value; left overs by g = S, by no payments, and by a reserve that rounds away
+unfoldable pub forecasts : List Bool
+forecasts =
+    sameList (forecastOutput 3 negative 2 0 (replicate 31 (pos 5)))
+    (pos 0 ∷ pos 0 ∷ pos 0 ∷ pos 0 ∷ pos 0 ∷ pos 0 ∷ pos 7 ∷ pos 0 ∷ less 11 ∷ pos 0 ∷ pos 0 ∷ pos 0 ∷ pos 0 ∷ pos 0
+    ∷ pos 120 ∷ less 401 ∷ pos 129 ∷ less 158 ∷ pos 0 ∷ pos 59 ∷ pos 0 ∷ pos 0 ∷ less 99 ∷ less 67 ∷ pos 37 ∷ less 58 ∷ pos 0 ∷ less 3
+    ∷ pos 0 ∷ pos 5 ∷ pos 5 ∷ [])
+    ∷ sameList (forecastOutput 3 few 0 0 (replicate 30 (pos 5)))
+    (pos 0 ∷ pos 0 ∷ pos 0 ∷ pos 0 ∷ pos 0 ∷ pos 0 ∷ less 3986486473 ∷ pos 0
+    ∷ less 2702702691 ∷ pos 0 ∷ pos 0 ∷ pos 0 ∷ pos 0 ∷ pos 0 ∷ less 4707207198 ∷ pos 5563063054
+    ∷ less 1901901893 ∷ less 1355105103 ∷ pos 0 ∷ less 2852852840 ∷ pos 0 ∷ pos 0 ∷ less 1558974360 ∷ pos 4266666673
+    ∷ less 3282051273 ∷ pos 4294017088 ∷ pos 0 ∷ less 3487179483 ∷ pos 0 ∷ less 2735042725 ∷ [])
+    ∷ leftOver3 negative (pos 50 ∷ pos 0 ∷ pos 0 ∷ []) ∷ leftOver3 unpaid (pos 0 ∷ pos 840 ∷ pos 1074 ∷ []) ∷ leftOver3 settled (pos 0 ∷ pos 97 ∷ less 28 ∷ [])
+    -- a back-test with cut 1: two cells, errors 127 by cell, 67 by calendar year and in all
+    ∷ sameList (figures 4 four 1 0 0) (pos 2 ∷ pos 127 ∷ pos 67 ∷ pos 67 ∷ [])
+    -- demand 3 for year 2 of K: H = 1100, the reserve 440, and the bound 2 + 1100 / (6 × 10^8)
+    ∷ sameFraction (H 2 (setOf 2 K .paid) 2) (pos 1100) (pos 1) ∷ sameFraction (reserve 2 (setOf 2 K .paid) 2) (pos 440) (pos 1)
+    ∷ sameFraction (bound 2 (setOf 2 K .paid) 2) (pos 12000011) (pos 6000000)
+    ∷ []
+
+unfoldable pub refusals : List Bool
+refusals =
+    -- 3: a kind that the length does not allow, year 0, a cell outside, one byte that should be zero
+    refused (rec 2 1 0 1 ++ rec 0 1 1 0 ++ rec 0 2 0 1 ++ two 1 1 0 1) 0 3 ∷ refused (rec 0 0 0 1 ++ rec 0 1 1 0 ++ rec 0 2 0 1 ++ two 1 1 0 1) 0 3
+    ∷ refused (rec 0 1 0 1 ++ rec 0 2 1 0 ++ rec 0 2 0 1 ++ two 1 1 0 1) 0 3 ∷ refused (set K 7 1) 0 3
+    -- 4: a cell twice and another missing; 5: a count of 10,000,001; 6: no incurred
+    ∷ refused (two 0 80 20 90 ++ rec 1 1 0 600 ++ rec 1 1 0 600 ++ rec 1 2 0 660) 0 4
+    ∷ refused (two 0 80 20 10000001 ++ two 1 600 400 660) 0 5 ∷ refused (two 0 80 20 90 ++ two 1 600 400 660) 1 6
+    -- 9: a row without counts; 10: no paid money in row 1
+    ∷ refused (two 0 80 20 0 ++ two 1 600 400 660) 0 9 ∷ refused (two 0 80 20 90 ++ two 1 0 0 660) 0 10
+    -- 13: A(1) = 0, B(1) = 0, a latest row sum below zero, g(0) = 999,001, g(0) = 5 × 10^9; not asked under method 0
+    ∷ refused (ones 1 0 1 ++ two 2 0 1 1) 1 13 ∷ refused (ones 1 0 1 ++ two 2 1 (minus 1) 1) 1 13 ∷ refused (ones 1 0 1 ++ two 2 1 0 (minus 1)) 1 13
+    ∷ refused (ones 1 0 1 ++ two 2 1 1000 1) 1 13 ∷ refused (ones 1 0 1 ++ two 2 5 (minus 4) 1) 1 13 ∷ refused (ones 1 0 1 ++ two 2 0 1 1) 0 0
+    -- passed: g(0) = 10^6, g(0) = 4 × 10^9, a latest row sum of zero
+    ∷ refused (ones 1 0 1 ++ two 2 1 999 1) 1 0 ∷ refused (ones 1 0 1 ++ two 2 4 (minus 3) 1) 1 0 ∷ refused (ones 1 0 1 ++ two 2 1 0 0) 1 0
+    -- 14: V(2) = 20001 × 10^10 under BDCL, and -14142136 × 14142137 under IDCL; passed: 2 × 10^14, and -14142135 × 14142136
+    ∷ refused (ones 20001 0 1 ++ two 2 1 0 (10 ^ 10)) 1 14 ∷ refused (ones 14142136 1 14142136 ++ two 2 1 0 0) 2 14
+    ∷ refused (ones 20000 0 1 ++ two 2 1 0 (10 ^ 10)) 1 0 ∷ refused (ones 14142135 1 14142135 ++ two 2 1 0 0) 2 0
+    ∷ []
+
+unfoldable pub opened-further : ℕ
+unfolding
+    opened K negative unpaid settled few four sameList sameFraction allTrue refused leftOver3 ones forecasts refusals
+    GDown G H reserve bound
+    quotient meanCost factor inflation claimCosts noClaimCosts claimCostsAnswer div ofInt
+    readAnswer writeRefusal q5Writer q7Writer
+opened-further = 0
+
+pub further-forecasts : T (allTrue forecasts)
+unfolding opened-further
+further-forecasts = tt
+
+pub further-refusals : T (allTrue refusals)
+unfolding opened-further
+further-refusals = tt
+
+-- the claim costs of K: mu is 10, f(1) the number nearest 1000/600, and year 2's inflation (1100/113)/10, each division rounded
+pub claim-costs : claimCostsAnswer 2 K ≡ record {
+  refusal = 0;
+  costs = record {
+    mu = fin false 5 (pos 1);
+    factors = fin false 7505999378950827 (negsuc 51) ∷ replicate 19 (fin false 0 (pos 0));
+    inflations = yearInflation BaseYear ∷ yearInflation (Ratio (fin false 4384035035493403 (negsuc 51))) ∷ replicate 18 (yearInflation NoPaymentsYet);
+  };
+}
+unfolding opened-further
+claim-costs = refl
+
+-- the reader hands back what the writer was given: numbers past the cells aren't read
+pub given : readAnswer 2 K ≡ record { refusal = 0; set = givenSet 2 true (pos 80 ∷ pos 20 ∷ replicate 18 (pos 3) ++ pos 90 ∷ []) (pos 600 ∷ pos 400 ∷ replicate 18 (pos 3) ++ pos 660 ∷ []) (pos 900 ∷ pos 100 ∷ replicate 18 (pos 3) ++ pos 1080 ∷ []) }
+unfolding opened-further
+given = refl
+
+-- "2 0 1" with five digits in the first run: "refused 1"
+pub five-digits : closingText (48 ∷ 48 ∷ 48 ∷ 48 ∷ asked) ≡ 114 ∷ 101 ∷ 102 ∷ 117 ∷ 115 ∷ 101 ∷ 100 ∷ 32 ∷ 49 ∷ 10 ∷ []
+unfolding opened-further
+five-digits = refl

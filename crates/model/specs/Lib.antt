@@ -1,0 +1,21 @@
+-- The definitions of document 01, a file for each of its sections, in its order.
+pub mod Lists
+pub mod ListsLaws
+pub mod Records
+pub mod RecordsLaws
+pub mod Rounding
+pub mod Shares
+pub mod Delays
+pub mod RowBases
+pub mod Cells
+pub mod CellsLaws
+pub mod PaidReserve
+pub mod Calendar
+pub mod ClaimCosts
+pub mod BackTest
+pub mod Questions
+pub mod QuestionsLaws
+pub mod Calls
+pub mod Agreement
+pub mod Examples
+pub mod Further

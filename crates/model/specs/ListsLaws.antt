@@ -1,0 +1,130 @@
+-- Laws of Lists. Assumes nothing.
+use mathlib.Core.Path.{_≡_, refl, sym, _∙_, ap, subst}
+use mathlib.Core.Bool.{Bool, true, false, _&&_, cond, and-false, false≢true}
+use mathlib.Core.List.{List, [], _∷_}
+use mathlib.Core.Logic.{⊎-elim}
+use Prim.Native.Nat.{ℕ, zero, suc, _+_, _<_, _≤_}
+use native.Mathlib.Nat.{le-of-suc-le-suc, not-suc-le-zero, eq-or-lt-of-le}
+use native.Mathlib.Numerals.{add-one}
+use native.Mathlib.Omega.{arith}
+use lib.Dec.{ltb}
+use lib.ListN.{length, getD, set, replicate}
+use lib.Seq.{ext-getD}
+use borrow.Author.Tests.{ltb-true, ltb-false, le-ltb, lt-ltb}
+use Rattle.model.specs.Lists.{tabulate, listed, every}
+
+-- ---- lists made place by place
+
+pub length-tabulate : {A : Type 0} (n : ℕ) (f : ℕ → A) → length (tabulate n f) ≡ n
+unfolding tabulate
+length-tabulate zero f = refl
+length-tabulate (suc n) f = ap suc (length-tabulate n (λ k. f (suc k)))
+
+pub getD-tabulate : {A : Type 0} (n : ℕ) (f : ℕ → A) (k : ℕ) (d : A) → k < n → getD (tabulate n f) k d ≡ f k
+unfolding tabulate
+getD-tabulate zero f k d h = absurd (not-suc-le-zero h)
+getD-tabulate (suc n) f zero d h = refl
+getD-tabulate (suc n) f (suc k) d h = getD-tabulate n (λ i. f (suc i)) k d (le-of-suc-le-suc h)
+
+-- a list of n elements that are f's values
+pub is-tabulate : {A : Type 0} (n : ℕ) (f : ℕ → A) (l : List A) (d : A) → length l ≡ n → ((k : ℕ) → k < n → getD l k d ≡ f k) → l ≡ tabulate n f
+is-tabulate n f l d e h =
+    ext-getD d l (tabulate n f) (e ∙ sym (length-tabulate n f))
+    (λ k u. let v : k < n = omega arith in h k v ∙ sym (getD-tabulate n f k d v))
+
+pub tabulate-ext : {A : Type 0} (n : ℕ) (f g : ℕ → A) → ((k : ℕ) → k < n → f k ≡ g k) → tabulate n f ≡ tabulate n g
+unfolding tabulate
+tabulate-ext zero f g e = refl
+tabulate-ext (suc n) f g e = rw (e 0 (omega arith), tabulate-ext n (λ k. f (suc k)) (λ k. g (suc k)) (λ k h. e (suc k) (omega arith)))
+
+tabulate-same : {A : Type 0} (n : ℕ) (d : A) → replicate n d ≡ tabulate n (λ _. d)
+unfolding tabulate
+tabulate-same zero d = refl
+tabulate-same (suc n) d = ap (λ l. d ∷ l) (tabulate-same n d)
+
+-- a store at i, where g is f but at i
+set-tabulate : {A : Type 0} (n i : ℕ) (f g : ℕ → A) → i < n → ((k : ℕ) → (k ≡ i → ⊥) → g k ≡ f k) → set (tabulate n f) i (g i) ≡ tabulate n g
+unfolding tabulate
+set-tabulate zero i f g h o = absurd (not-suc-le-zero h)
+set-tabulate (suc n) zero f g h o =
+    rw (tabulate-ext n (λ k. g (suc k)) (λ k. f (suc k)) (λ k l. o (suc k) (λ q. omega arith)))
+set-tabulate (suc n) (suc i) f g h o =
+    rw (o 0 (λ q. omega arith), set-tabulate n i (λ k. f (suc k)) (λ k. g (suc k)) (le-of-suc-le-suc h) (λ k q. o (suc k) (λ p. q (omega arith))))
+
+-- ---- lists filled from the front
+
+pub length-listed : {A : Type 0} (n m : ℕ) (f : ℕ → A) (d : A) → length (listed n m f d) ≡ n
+unfolding listed
+length-listed n m f d = length-tabulate n (λ k. cond (ltb k m) (f k) d)
+
+-- an entry, and a place past the last one
+pub getD-listed : {A : Type 0} (n m : ℕ) (f : ℕ → A) (d : A) (k : ℕ) (x : A) → k < n → k < m → getD (listed n m f d) k x ≡ f k
+unfolding listed
+getD-listed n m f d k x h l = getD-tabulate n (λ k. cond (ltb k m) (f k) d) k x h ∙ rw (lt-ltb k m l)
+
+pub getD-listed-past : {A : Type 0} (n m : ℕ) (f : ℕ → A) (d : A) (k : ℕ) (x : A) → k < n → m ≤ k → getD (listed n m f d) k x ≡ d
+unfolding listed
+getD-listed-past n m f d k x h l = getD-tabulate n (λ k. cond (ltb k m) (f k) d) k x h ∙ rw (le-ltb k m l)
+
+pub listed-none : {A : Type 0} (n : ℕ) (f : ℕ → A) (d : A) → replicate n d ≡ listed n 0 f d
+unfolding listed
+listed-none n f d = tabulate-same n d ∙ tabulate-ext n (λ _. d) (λ k. cond (ltb k 0) (f k) d) (λ k h. rw (le-ltb k 0 (omega arith)))
+
+pub listed-more : {A : Type 0} (n i : ℕ) (f : ℕ → A) (d : A) → i < n → set (listed n i f d) i (f i) ≡ listed n (i + 1) f d
+unfolding listed
+listed-more {A} n i f d h =
+    subst (λ (v : A). set (tabulate n (λ k. cond (ltb k i) (f k) d)) i v ≡ tabulate n g) (rw (lt-ltb i (i + 1) (omega arith)))
+    (set-tabulate n i (λ k. cond (ltb k i) (f k) d) g h (λ k o. by-test k (ltb k i) refl o))
+  where
+    g : ℕ → A
+    g k = cond (ltb k (i + 1)) (f k) d
+
+    next : (k : ℕ) → i ≤ k → (k ≡ i → ⊥) → i + 1 ≤ k
+    next k l o = ⊎-elim (λ q. absurd (o (sym q))) (λ q. omega arith) (eq-or-lt-of-le l)
+
+    by-test : (k : ℕ) (t : Bool) → ltb k i ≡ t → (k ≡ i → ⊥) → cond (ltb k (i + 1)) (f k) d ≡ cond (ltb k i) (f k) d
+    by-test k true e o = let l : k < i = ltb-true k i e in rw (lt-ltb k (i + 1) (omega arith), e)
+    by-test k false e o = let l : i ≤ k = ltb-false k i e in rw (le-ltb k (i + 1) (next k l o), e)
+
+-- ---- tests of every number
+
+pub every-none : (p : ℕ → Bool) → every 0 p ≡ true
+unfolding every
+every-none p = refl
+
+pub every-more : (p : ℕ → Bool) (n : ℕ) → every n p ≡ true → p n ≡ true → every (n + 1) p ≡ true
+unfolding every
+every-more p n h e = rw (add-one, h, e)
+
+pub every-no : (p : ℕ → Bool) (n k : ℕ) → k < n → p k ≡ false → every n p ≡ false
+unfolding every
+every-no p zero k l e = absurd (not-suc-le-zero l)
+every-no p (suc n) k l e =
+    ⊎-elim (λ q. ap (λ (b : Bool). every n p && b) (subst (λ (i : ℕ). p i ≡ false) q e) ∙ and-false (every n p))
+    (λ lt. ap (λ (b : Bool). b && p n) (every-no p n k lt e)) (eq-or-lt-of-le (le-of-suc-le-suc l))
+
+-- both halves of an `&&` that holds
+pub and-left : (a b : Bool) → (a && b) ≡ true → a ≡ true
+and-left true b e = refl
+and-left false b e = absurd (false≢true e)
+
+pub and-right : (a b : Bool) → (a && b) ≡ true → b ≡ true
+and-right true b e = e
+and-right false b e = absurd (false≢true e)
+
+pub every-at : (p : ℕ → Bool) (n k : ℕ) → every n p ≡ true → k < n → p k ≡ true
+unfolding every
+every-at p zero k h l = absurd (not-suc-le-zero l)
+every-at p (suc n) k h l =
+    ⊎-elim (λ q. subst (λ (i : ℕ). p i ≡ true) (sym q) (and-right (every n p) (p n) h)) (λ lt. every-at p n k (and-left (every n p) (p n) h) lt)
+    (eq-or-lt-of-le (le-of-suc-le-suc l))
+
+pub every-all : (p : ℕ → Bool) (n : ℕ) → ((k : ℕ) → k < n → p k ≡ true) → every n p ≡ true
+unfolding every
+every-all p zero h = refl
+every-all p (suc n) h = rw (every-all p n (λ k l. h k (omega arith)), h n (omega arith))
+
+pub every-ext : (p q : ℕ → Bool) (n : ℕ) → ((k : ℕ) → k < n → p k ≡ q k) → every n p ≡ every n q
+unfolding every
+every-ext p q zero h = refl
+every-ext p q (suc n) h = rw (every-ext p q n (λ k l. h k (omega arith)), h n (omega arith))

@@ -1,0 +1,23 @@
+-- Laws of Records. Assumes nothing.
+use mathlib.Core.Path.{_≡_, refl, sym, _∙_, ap, ap₂}
+use mathlib.Core.Bool.{Bool, true, false, _&&_, cond}
+use mathlib.Core.List.{List}
+use Prim.Native.Nat.{ℕ, suc, _+_, _-_, _*_, _/_, _%_, _<_, _≤_}
+use native.Mathlib.Omega.{arith}
+use borrow.Author.Tests.{le-leb}
+use lib.Dec.{leb}
+use lib.IntN.{ℤ, pos}
+use Rattle.model.specs.ListsLaws.{getD-tabulate}
+use Rattle.model.specs.Records.{inside, cell, triangle}
+
+pub inside-yes : (m i j : ℕ) → 1 ≤ i → i + j ≤ m → inside m i j ≡ true
+inside-yes m i j h l = rw (le-leb 1 i h, le-leb (i + j) m l)
+
+-- a cell of a triangle that is made cell by cell
+pub cell-triangle : (m : ℕ) (v : ℕ → ℕ → ℤ) (i j : ℕ) → m ≤ 20 → 1 ≤ i → i + j ≤ m → cell (triangle m v) i j ≡ v i j
+unfolding triangle
+cell-triangle m v i j few h l =
+    let y : (20 * (i - 1) + j) / 20 + 1 ≡ i = omega arith in
+    let d : (20 * (i - 1) + j) % 20 ≡ j = omega arith in
+    getD-tabulate 400 (λ p. cond (inside m (p / 20 + 1) (p % 20)) (v (p / 20 + 1) (p % 20)) (pos 0)) (20 * (i - 1) + j) (pos 0) (omega arith)
+    ∙ rw (y, d, le-leb 1 i h, le-leb (i + j) m l)

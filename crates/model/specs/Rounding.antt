@@ -1,0 +1,24 @@
+-- Document 01, "Rounding". Only this file, its laws and the code that rounds know how r is made.
+use Prim.Native.Nat.{ℕ, suc, _*_, _/_, _%_, _^_}
+use mathlib.Core.Bool.{cond}
+use lib.Dec.{ltb}
+use lib.IntN.{ℤ, pos, negsuc, negℤ, natAbs, _-ℤ_, _*ℤ_}
+use Rattle.integers.specs.Parts.{_⩽_, _⋖_}
+use Rattle.integers.specs.Absolute.{∣_∣}
+
+-- "S = 10^9."
+unfoldable pub S : ℤ
+S = pos (10 ^ 9)
+
+-- "the nearest whole number; halves go away from zero", of a / b from 0 up: below half the quotient, from half on the next number
+unfoldable pub nearest : ℕ → ℕ → ℕ
+nearest a b = cond (ltb (2 * (a % b)) b) (a / b) (suc (a / b))
+
+-- r(a/b), "so -2.5 becomes -3": b is above zero wherever it is asked for
+unfoldable pub r : ℤ → ℤ → ℤ
+r (pos a) b = pos (nearest a (natAbs b))
+r (negsuc a) b = negℤ (pos (nearest (suc a) (natAbs b)))
+
+-- what the promises use of a rounding: it is within one half of a / b
+pub record WithinHalf (r : ℤ → ℤ → ℤ) : Type 0 where
+  pub near : (a b : ℤ) → pos 0 ⋖ b → pos 2 *ℤ ∣ b *ℤ r a b -ℤ a ∣ ⩽ b

@@ -1,0 +1,133 @@
+// The data that the library's calls take and hand back, and the one method, which stands with its struct. Their meaning is in specs/, a file for each
+// section of document 01.
+
+ghost use mathlib.Core.Path.{_≡_};
+ghost use lib.IntN.{_+ℤ_};
+ghost use Rattle.model.specs.Calendar.{fits64, tallyAdd};
+
+// A set of triangles: cell (i,j) at 20 × (i-1) + j, zeros in the other places. `three` says that incurred is there beside counts and paid.
+pub struct TriangleSet {
+    pub three: bool,
+    pub counts: [i64; 400],
+    pub paid: [i64; 400],
+    pub incurred: [i64; 400],
+}
+
+// What the reader hands back. A refusal of 0 says that the file is accepted.
+pub struct ReadAnswer {
+    pub refusal: u64,
+    pub set: TriangleSet,
+}
+
+// Shares and ultimates: b and N of counts; q, g and U of paid. Delay j stands at place j, year i at place i - 1.
+pub struct SharesAnswer {
+    pub refusal: u64,
+    pub b: [i64; 20],
+    pub n: [i64; 20],
+    pub q: [i64; 20],
+    pub g: [i64; 20],
+    pub u: [i64; 20],
+}
+
+// The delays, p(l) at place l.
+pub struct DelaysAnswer {
+    pub refusal: u64,
+    pub p: [i64; 20],
+}
+
+// The left overs, beside the output that the caller lends; year i at place i - 1.
+pub struct ForecastAnswer {
+    pub refusal: u64,
+    pub leftovers: [i64; 20],
+}
+
+// The sums of each calendar year 1 to 38, year t at place t - 1.
+pub struct Tally {
+    pub rbns: [i64; 38],
+    pub ibnr: [i64; 38],
+}
+
+const HIGHEST: i64 = 9223372036854775807;
+
+const LOWEST: i64 = -9223372036854775808;
+
+// Whether a + b is a signed 64-bit number.
+fn sum_fits(a: i64, b: i64) -> bool
+    ensures { λ r. ⌜ r ≡ fits64 (a +ℤ b) ⌝ }
+{
+    if b < 0 {
+        return LOWEST - b <= a;
+    }
+    a <= HIGHEST - b
+}
+
+impl Tally {
+    // The tally with a cell added to its calendar year's sums; the same tally for a year outside 1 to 38, or where a sum
+    // leaves the signed 64-bit numbers.
+    pub fn add(mut self, year: u64, rbns: i64, ibnr: i64) -> Tally
+        ensures { λ r. ⌜ r ≡ tallyAdd self year rbns ibnr ⌝ }
+    {
+        if year < 1 {
+            return self;
+        }
+        if 38 < year {
+            return self;
+        }
+        let i = (year - 1) as usize;
+        let a = self.rbns[i];
+        let b = self.ibnr[i];
+        if !sum_fits(a, rbns) {
+            return self;
+        }
+        if !sum_fits(b, ibnr) {
+            return self;
+        }
+        self.rbns[i] = a + rbns;
+        self.ibnr[i] = b + ibnr;
+        self
+    }
+}
+
+// A year's inflation against the first year.
+pub enum Inflation {
+    BaseYear,
+    NoPaymentsYet,
+    Ratio(f64),
+}
+
+pub struct YearInflation {
+    pub value: Inflation,
+}
+
+// Claim costs (document 01's claim-cost card): mu is the first year's mean cost, f(j) stands at place j - 1, year i's inflation at place i - 1.
+pub struct ClaimCosts {
+    pub mu: f64,
+    pub factors: [f64; 20],
+    pub inflations: [YearInflation; 20],
+}
+
+pub struct ClaimCostsAnswer {
+    pub refusal: u64,
+    pub costs: ClaimCosts,
+}
+
+// The back-test: the number of cells, and the sums of absolute errors by cell, by calendar year and of the total.
+pub struct BackTestAnswer {
+    pub refusal: u64,
+    pub cells: u64,
+    pub cellwise: u64,
+    pub yearwise: u64,
+    pub overall: u64,
+}
+
+// A run of digits and the byte after it: the number and the place after that byte.
+pub enum Run {
+    Number(u64, usize),
+    Wrong,
+}
+
+// What the first line of `closing` asks: m, the method, the basis, and the place where the file starts.
+pub enum FirstLine {
+    Asked(u64, u64, u64, usize),
+    Refused,
+}

@@ -1,0 +1,106 @@
+//! Section "Cell forecasts".
+
+use crate::big::Big;
+use crate::delays::solved;
+use crate::records::{read_set, Refusal, Set};
+use crate::rounding::{r, scale};
+use crate::row_bases::row_bases;
+use crate::shares::{estimates, list, signed_64, Estimates};
+
+/// The 2m(2m-1) output entries, and the left overs.
+#[derive(Clone, Debug, PartialEq, Eq)]
+pub struct Forecast {
+    pub entries: Vec<i64>,
+    pub leftovers: [i64; 20],
+}
+
+/// "Output entry 2 × ((i-1) × (2m-1) + j) + 0 is RBNS, + 1 is IBNR"; the RBNS one.
+pub fn entry(m: usize, i: usize, j: usize) -> usize {
+    2 * ((i - 1) * (2 * m - 1) + j)
+}
+
+/// "2m(2m-1) entries"
+pub fn entry_count(m: usize) -> usize {
+    2 * m * (2 * m - 1)
+}
+
+/// The forecast of a file, into an output of `out_len` entries: questions 1 to 7 and 9 to 14.
+pub fn forecast(
+    file: &[u8],
+    m: u64,
+    method: u64,
+    basis: u64,
+    out_len: usize,
+) -> Result<Forecast, Refusal> {
+    let set = read_set(file, m)?;
+    question_6(&set, method, basis)?;
+    // 7. "Is the output long enough: 2m(2m-1) entries"
+    if out_len < entry_count(set.m) {
+        return Err(7);
+    }
+    forecast_set(&set, method, basis)
+}
+
+/// "Is the method 0, 1 or 2, the basis 0 or 1, and is incurred there if the method is 1 or 2?"
+pub fn question_6(set: &Set, method: u64, basis: u64) -> Result<(), Refusal> {
+    if method <= 2 && basis <= 1 && (method == 0 || set.incurred_there) {
+        Ok(())
+    } else {
+        Err(6)
+    }
+}
+
+/// The forecast of a set: questions 9 to 14.
+pub fn forecast_set(set: &Set, method: u64, basis: u64) -> Result<Forecast, Refusal> {
+    let m = set.m;
+    let estimates = estimates(set)?;
+    let p = solved(&estimates)?;
+    let bases = row_bases(set, &estimates, method)?;
+    let mut entries = vec![0; entry_count(m)];
+    for i in 1..=m {
+        let v = &bases.v[i - 1];
+        let s = reported_shares(&estimates, i, basis);
+        for j in m - i + 1..=2 * m - 2 {
+            let rbns = cell_forecast(v, &s, &p, j, |k| k <= m - i);
+            let ibnr = cell_forecast(v, &estimates.b, &p, j, |k| k > m - i);
+            entries[entry(m, i, j)] = signed_64(&rbns);
+            entries[entry(m, i, j) + 1] = signed_64(&ibnr);
+        }
+    }
+    Ok(Forecast {
+        entries,
+        leftovers: list(&bases.leftovers),
+    })
+}
+
+/// s(k) of year i for k = 0 to m - i. "Basis 1 (estimated counts): s(k) = b(k). Basis 0
+/// (actual): s(k) = r(count(i,k) × the count share g(m-i) / C(i,m-i) of counts)."
+pub fn reported_shares(estimates: &Estimates, i: usize, basis: u64) -> Vec<Big> {
+    let counts = &estimates.counts;
+    let latest = counts.m() - i;
+    let share = |k: usize| match basis {
+        1 => estimates.b[k].clone(),
+        _ => r(
+            &(counts.cell(i, k) * &estimates.count_g[latest]),
+            &counts.c(i, latest),
+        ),
+    };
+    (0..=latest).map(share).collect()
+}
+
+/// "take all k, l from 0 to m - 1 with k + l = j": r(V(i) × sum of share(k) × p(l) / S^2) over
+/// the reporting delays k chosen.
+fn cell_forecast(
+    v: &Big,
+    share: &[Big],
+    p: &[Big],
+    j: usize,
+    chosen: impl Fn(usize) -> bool,
+) -> Big {
+    let m = p.len();
+    let total: Big = (0..m)
+        .filter(|&k| k <= j && j - k < m && chosen(k))
+        .map(|k| &share[k] * &p[j - k])
+        .sum();
+    r(&(v * total), &(scale() * scale()))
+}

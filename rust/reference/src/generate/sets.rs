@@ -1,0 +1,224 @@
+//! Sets of many shapes, with every value in its range.
+
+use super::edges::last_accepted;
+use super::incurred::fill_incurred;
+use super::random::Random;
+use crate::delays::solved;
+use crate::records::{cells, place, range, Set, Values};
+use crate::shares::estimates;
+
+/// A set of any size and shape, with or without incurred.
+pub fn any_set(random: &mut Random) -> Set {
+    let largest = random.pick(&[4, 12, 12, 20]);
+    let m = if random.one_in(25) {
+        20
+    } else {
+        random.between(2, largest) as usize
+    };
+    let mut set = Set::empty(m, random.below(4) > 0);
+    match random.below(11) {
+        0..=3 => tidy(random, &mut set),
+        4 | 5 => wild(random, &mut set),
+        6 => limits(random, &mut set),
+        7 => sparse(random, &mut set),
+        8 => settled(random, &mut set),
+        9 => even_parts(random, &mut set),
+        _ => unpaid_years(random, &mut set),
+    }
+    if set.incurred_there {
+        fill_incurred(random, &mut set);
+    }
+    set
+}
+
+/// Weights of delays 0 to m - 1, mostly falling.
+pub fn weights(random: &mut Random, m: usize) -> Vec<i64> {
+    let ratio = random.between(5, 95);
+    let mut weights = vec![1_000_000];
+    for j in 1..m {
+        weights.push(weights[j - 1] * ratio / 100);
+    }
+    match random.below(6) {
+        0 => weights[0] = weights[1],
+        1 => {
+            for weight in &mut weights[1..] {
+                if random.one_in(3) {
+                    *weight = 0;
+                }
+            }
+        }
+        2 => weights[1..].fill(0),
+        _ => {}
+    }
+    weights
+}
+
+/// Rows of about this size, spread by the weights, each cell off by at most `noise` percent.
+pub fn spread(random: &mut Random, kind: u8, weights: &[i64], size: i64, noise: i64) -> Values {
+    let m = weights.len();
+    let total: i128 = weights.iter().map(|&weight| i128::from(weight)).sum();
+    let mut values = [0; 400];
+    for i in 1..=m {
+        let row = i128::from(size) * i128::from(random.between(30, 170));
+        for j in 0..=m - i {
+            let percent = i128::from(random.between(100 - noise, 100 + noise));
+            let value = row * i128::from(weights[j]) / total * percent / 10_000;
+            let (low, high) = (*range(kind).start(), *range(kind).end());
+            values[place(i, j)] = value.clamp(low.into(), high.into()) as i64;
+        }
+    }
+    values
+}
+
+/// Falling patterns with some noise.
+fn tidy(random: &mut Random, set: &mut Set) {
+    let noise = random.pick(&[0, 1, 10, 50]);
+    let pattern = weights(random, set.m);
+    let size = random.of_digits(7);
+    set.counts = spread(random, 0, &pattern, size, noise);
+    let pattern = weights(random, set.m);
+    let size = random.of_digits(11);
+    set.paid = spread(random, 1, &pattern, size, noise);
+    some_count_and_payment(set);
+}
+
+/// A count in every row, and a payment in the first.
+fn some_count_and_payment(set: &mut Set) {
+    for i in 1..=set.m {
+        let count = &mut set.counts[place(i, 0)];
+        *count = (*count).max(1);
+    }
+    let payment = &mut set.paid[place(1, 0)];
+    *payment = (*payment).max(1);
+}
+
+/// Late reports outweigh early ones, so that the delays swing wide between plus and minus: the
+/// late weights grow until question 12 refuses, and the set stays at or near that edge.
+fn wild(random: &mut Random, set: &mut Set) {
+    let m = set.m;
+    let late = late_weights(random, m);
+    let mut early = weights(random, m);
+    if random.below(3) > 0 {
+        early[0] = random.between(10_000_000, 1_000_000_000);
+    }
+    let (size, noise) = (
+        random.between(1_000_000, 6_000_000),
+        random.pick(&[0, 0, 2]),
+    );
+    set.paid = spread(random, 1, &early, 1_000 * size, noise);
+    let seed = random.number();
+    let with_late = |set: &Set, x: i64| {
+        let mut set = set.clone();
+        let mut weights: Vec<i64> = late.iter().map(|weight| weight * x / 1_000).collect();
+        weights[0] = 1_000_000;
+        set.counts = spread(&mut Random::new(seed), 0, &weights, size, noise);
+        set
+    };
+    let solvable = |x: i64| {
+        estimates(&with_late(set, x))
+            .and_then(|found| solved(&found))
+            .is_ok()
+    };
+    let edge = last_accepted(0, 1_000_000, solvable);
+    let chosen = match random.below(8) {
+        0 => edge + 1,
+        1..=4 => edge,
+        _ => random.between(edge * 8 / 10, edge),
+    };
+    *set = with_late(set, chosen);
+}
+
+/// Weights in thousandths of the first delay's: one late delay, any, or rising ones.
+fn late_weights(random: &mut Random, m: usize) -> Vec<i64> {
+    let mut late = vec![0; m];
+    match random.below(3) {
+        0 => late[1 + random.below(m - 1)] = random.between(1_000, 9_000),
+        1 => late[1..].fill_with(|| random.between(0, 3_000)),
+        _ => {
+            let mut weight = random.between(100, 2_000);
+            for at in late.iter_mut().skip(1) {
+                *at = weight;
+                weight = (weight * random.between(90, 150) / 100).min(9_000);
+            }
+        }
+    }
+    late
+}
+
+/// Values at the ends of their ranges and beside them.
+fn limits(random: &mut Random, set: &mut Set) {
+    let all = random.one_in(4);
+    for kind in 0..2 {
+        let most = *range(kind).end();
+        for (i, j) in cells(set.m) {
+            let value = if all || j == 0 {
+                random.pick(&[most, most, most - 1])
+            } else {
+                random.pick(&[0, 0, 0, most, most - 1, 1])
+            };
+            set.triangle_mut(kind)[place(i, j)] = value;
+        }
+    }
+    if random.one_in(3) {
+        let row = 1 + random.below(set.m);
+        for j in 0..=set.m - row {
+            set.counts[place(row, j)] = 0;
+        }
+        set.counts[place(row, 0)] = 1;
+    }
+}
+
+/// Small numbers and many zeros.
+fn sparse(random: &mut Random, set: &mut Set) {
+    for (i, j) in cells(set.m) {
+        if j == 0 || random.one_in(3) {
+            set.counts[place(i, j)] = random.between(0, 3);
+        }
+        if random.one_in(2) {
+            set.paid[place(i, j)] = random.between(0, 20);
+        }
+    }
+    some_count_and_payment(set);
+}
+
+/// Nearly all is paid at once, so that the reserves of small years round away.
+fn settled(random: &mut Random, set: &mut Set) {
+    tidy(random, set);
+    set.paid = [0; 400];
+    for i in 1..=set.m {
+        let most = if i == 1 { 10_000_000_000 } else { 3_000 };
+        set.paid[place(i, 0)] = random.between(most / 2, most);
+    }
+    for j in 1..set.m {
+        set.paid[place(1, j)] = random.between(0, 3_000_000);
+    }
+}
+
+/// Years without payments.
+fn unpaid_years(random: &mut Random, set: &mut Set) {
+    tidy(random, set);
+    for i in 2..=set.m {
+        if random.one_in(2) {
+            for j in 0..=set.m - i {
+                set.paid[place(i, j)] = 0;
+            }
+        }
+    }
+}
+
+/// Rows in eighths, tenths or sixteenths, so that exact halves come up in many places.
+fn even_parts(random: &mut Random, set: &mut Set) {
+    set.m = random.between(2, 6) as usize;
+    for kind in 0..2 {
+        let parts = random.pick(&[8, 10, 16]);
+        let mut pattern = vec![0; set.m];
+        pattern[0] = random.between(1, parts);
+        for _ in pattern[0]..parts {
+            pattern[random.below(set.m)] += 1;
+        }
+        let units: Vec<i64> = (0..set.m).map(|_| random.between(1, 60)).collect();
+        for (i, j) in cells(set.m) {
+            set.triangle_mut(kind)[place(i, j)] = units[i - 1] * pattern[j];
+        }
+    }
+}

@@ -1,0 +1,28 @@
+//! An independent big-number calculation of document 01: a module for each of its sections, with
+//! its letters. Every quantity is a whole number of any size, rounded only where the document
+//! rounds, so that nothing here depends on how large the numbers get.
+
+pub mod back_test;
+pub mod big;
+pub mod calendar;
+pub mod claim_costs;
+pub mod delays;
+pub mod forecast;
+pub mod fraction;
+pub mod generate;
+pub mod paid_reserve;
+pub mod records;
+pub mod rounding;
+pub mod row_bases;
+pub mod shares;
+pub mod source_002;
+
+pub use back_test::{back_test, BackTest};
+pub use big::Big;
+pub use calendar::{closing, Tally};
+pub use claim_costs::{claim_costs, ClaimCosts, Inflation};
+pub use delays::delays;
+pub use forecast::{forecast, Forecast};
+pub use paid_reserve::{demand3, ReserveDistance};
+pub use records::{read_set, write_set, Refusal, Set};
+pub use shares::{shares, Shares};

@@ -1,0 +1,74 @@
+//! Demand 3: the written forecast against the unrounded paid chain-ladder reserve.
+
+use crate::big::Big;
+use crate::forecast::{entry, entry_count, forecast};
+use crate::fraction::Fraction;
+use crate::records::{read_set, Refusal};
+use crate::rounding::scale;
+use crate::shares::{estimates, Triangle};
+
+/// Year i's distance and its bound, i + (i-1) × H / g.
+#[derive(Clone, Debug)]
+pub struct ReserveDistance {
+    pub within: bool,
+    pub distance: Fraction,
+    pub bound: Fraction,
+}
+
+impl ReserveDistance {
+    /// How close it came: distance over bound, in billionths.
+    pub fn closeness(&self) -> Big {
+        self.distance.over(&self.bound).billionths()
+    }
+}
+
+/// "G(m-1) = S and G(j-1) = G(j) × A(j) / B(j) of paid, never rounded"
+pub fn exact_shares(paid: &Triangle) -> Vec<Fraction> {
+    let m = paid.m();
+    let mut shares = vec![Fraction::whole(scale()); m];
+    for j in (1..m).rev() {
+        shares[j - 1] = shares[j].times(&Fraction::new(paid.a(j), paid.b(j)));
+    }
+    shares
+}
+
+/// "the unrounded paid ultimate H of row i is C(i,m-i) × S / G(m-i)"
+pub fn exact_ultimate(paid: &Triangle, exact_shares: &[Fraction], i: usize) -> Fraction {
+    let upper = Fraction::whole(paid.latest(i) * scale());
+    upper.over(&exact_shares[paid.m() - i])
+}
+
+/// For a file accepted under method 0, basis 1, each year's distance, year i at place i - 1.
+/// A lower number that is not above zero breaks off the calculation.
+pub fn demand3(file: &[u8], m: u64) -> Result<Vec<ReserveDistance>, Refusal> {
+    let set = read_set(file, m)?;
+    let m = set.m;
+    let forecast = forecast(file, m as u64, 0, 1, entry_count(m))?;
+    let estimates = estimates(&set)?;
+    let paid = &estimates.paid;
+    let exact_shares = exact_shares(paid);
+    let year = |i: usize| {
+        let written = written_sum(&forecast.entries, m, i);
+        let h = exact_ultimate(paid, &exact_shares, i);
+        let reserve = h.minus(&Fraction::whole(paid.latest(i)));
+        let distance = Fraction::whole(written).distance(&reserve);
+        let g = Fraction::whole(estimates.g[m - i].clone());
+        let per_unit = h.over(&g).times(&Fraction::whole(Big::from(i - 1)));
+        let bound = Fraction::whole(Big::from(i)).plus(&per_unit);
+        ReserveDistance {
+            within: distance.at_most(&bound),
+            distance,
+            bound,
+        }
+    };
+    Ok((1..=m).map(year).collect())
+}
+
+/// "Demand 3's sum for year i adds the RBNS and IBNR entries of the output at delays 0 to m - 1,
+/// as written"
+fn written_sum(entries: &[i64], m: usize, i: usize) -> Big {
+    (0..m)
+        .map(|j| entry(m, i, j))
+        .map(|at| Big::from(entries[at]) + Big::from(entries[at + 1]))
+        .sum()
+}

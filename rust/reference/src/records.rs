@@ -1,0 +1,208 @@
+//! Section "Triangle records": sets, their reader and their writer.
+
+use std::ops::RangeInclusive;
+
+/// The number of the first question that got a no.
+pub type Refusal = u64;
+
+/// A triangle by value: cell (i,j) at 20 (i-1) + j.
+pub type Values = [i64; 400];
+
+/// Counts and paid, or all three, with zeros outside the cells.
+#[derive(Clone, Debug, PartialEq, Eq)]
+pub struct Set {
+    pub m: usize,
+    pub incurred_there: bool,
+    pub counts: Values,
+    pub paid: Values,
+    pub incurred: Values,
+}
+
+impl Set {
+    pub fn empty(m: usize, incurred_there: bool) -> Set {
+        Set {
+            m,
+            incurred_there,
+            counts: [0; 400],
+            paid: [0; 400],
+            incurred: [0; 400],
+        }
+    }
+
+    /// Kinds 0 and 1, or 0 to 2.
+    pub fn kinds(&self) -> u8 {
+        kinds(self.incurred_there)
+    }
+
+    /// The triangle of a kind: "0 count, 1 paid, 2 incurred".
+    pub fn triangle(&self, kind: u8) -> &Values {
+        match kind {
+            0 => &self.counts,
+            1 => &self.paid,
+            _ => &self.incurred,
+        }
+    }
+
+    pub fn triangle_mut(&mut self, kind: u8) -> &mut Values {
+        match kind {
+            0 => &mut self.counts,
+            1 => &mut self.paid,
+            _ => &mut self.incurred,
+        }
+    }
+}
+
+/// "cell (i,j) at 20 × (i-1) + j"
+pub fn place(i: usize, j: usize) -> usize {
+    20 * (i - 1) + j
+}
+
+/// "accident year i (1 to m) and delay j (0 to m - 1) with i + j <= m"
+pub fn is_cell(m: usize, i: usize, j: usize) -> bool {
+    1 <= i && i <= m && j < m && i + j <= m
+}
+
+/// Every cell, by accident year, then delay.
+pub fn cells(m: usize) -> impl Iterator<Item = (usize, usize)> {
+    (1..=m).flat_map(move |i| (0..=m - i).map(move |j| (i, j)))
+}
+
+/// "counts 0 to 10,000,000; paid 0 to 10^10; incurred -10^10 to 10^10"
+pub fn range(kind: u8) -> RangeInclusive<i64> {
+    match kind {
+        0 => 0..=10_000_000,
+        1 => 0..=10_000_000_000,
+        _ => -10_000_000_000..=10_000_000_000,
+    }
+}
+
+fn kinds(incurred_there: bool) -> u8 {
+    if incurred_there {
+        3
+    } else {
+        2
+    }
+}
+
+/// The length in bytes of a set's file: "16 × m(m+1), or half as much again".
+pub fn file_length(m: usize, incurred_there: bool) -> usize {
+    let without = 16 * m * (m + 1);
+    if incurred_there {
+        without + without / 2
+    } else {
+        without
+    }
+}
+
+/// "Is m 2 to 20?"
+fn question_1(m: u64) -> Result<usize, Refusal> {
+    if (2..=20).contains(&m) {
+        Ok(m as usize)
+    } else {
+        Err(1)
+    }
+}
+
+/// One record of 16 bytes.
+struct Record {
+    kind: u8,
+    i: usize,
+    j: usize,
+    padding: [u8; 5],
+    value: i64,
+}
+
+impl Record {
+    /// "byte 0 the kind, byte 1 i, byte 2 j, bytes 3 to 7 zero, bytes 8 to 15 the value, signed
+    /// two's complement, least byte first"
+    fn read(bytes: &[u8]) -> Record {
+        Record {
+            kind: bytes[0],
+            i: usize::from(bytes[1]),
+            j: usize::from(bytes[2]),
+            padding: bytes[3..8].try_into().unwrap(),
+            value: i64::from_le_bytes(bytes[8..16].try_into().unwrap()),
+        }
+    }
+
+    fn write(kind: u8, i: usize, j: usize, value: i64) -> [u8; 16] {
+        let mut bytes = [0; 16];
+        bytes[0] = kind;
+        bytes[1] = i as u8;
+        bytes[2] = j as u8;
+        bytes[8..16].copy_from_slice(&value.to_le_bytes());
+        bytes
+    }
+}
+
+/// The set in a file; "The reader by itself takes 1 to 5."
+pub fn read_set(file: &[u8], m: u64) -> Result<Set, Refusal> {
+    let m = question_1(m)?;
+    // 2. "Is the length 16 × m(m+1), or half as much again?"
+    let incurred_there = file.len() == file_length(m, true);
+    if !incurred_there && file.len() != file_length(m, false) {
+        return Err(2);
+    }
+    let records: Vec<Record> = file.chunks_exact(16).map(Record::read).collect();
+    // 3. "Has each record a kind that length allows, a cell inside the triangle, and zero in
+    // bytes 3 to 7?"
+    let well_formed = |record: &Record| {
+        record.kind < kinds(incurred_there)
+            && is_cell(m, record.i, record.j)
+            && record.padding == [0; 5]
+    };
+    if !records.iter().all(well_formed) {
+        return Err(3);
+    }
+    // 4. "Is each cell there once?"
+    let mut times = [[0; 400]; 3];
+    for record in &records {
+        times[usize::from(record.kind)][place(record.i, record.j)] += 1;
+    }
+    let once = |kind: u8| cells(m).all(|(i, j)| times[usize::from(kind)][place(i, j)] == 1);
+    if !(0..kinds(incurred_there)).all(once) {
+        return Err(4);
+    }
+    // 5. "Is each value in range?"
+    if !records
+        .iter()
+        .all(|record| range(record.kind).contains(&record.value))
+    {
+        return Err(5);
+    }
+    let mut set = Set::empty(m, incurred_there);
+    for record in &records {
+        set.triangle_mut(record.kind)[place(record.i, record.j)] = record.value;
+    }
+    Ok(set)
+}
+
+/// Writes the set by kind, accident year, delay; bytes past it, and all on a refusal, stay.
+/// "The writer takes 1, 5 and 7, and question 5 looks only at the set's cells."
+pub fn write_set(
+    m: u64,
+    incurred_there: bool,
+    counts: &Values,
+    paid: &Values,
+    incurred: &Values,
+    out: &mut [u8],
+) -> Result<(), Refusal> {
+    let m = question_1(m)?;
+    let triangles = [counts, paid, incurred];
+    let mut bytes = Vec::new();
+    for kind in 0..kinds(incurred_there) {
+        for (i, j) in cells(m) {
+            let value = triangles[usize::from(kind)][place(i, j)];
+            if !range(kind).contains(&value) {
+                return Err(5);
+            }
+            bytes.extend(Record::write(kind, i, j, value));
+        }
+    }
+    // 7. "for the writer, every byte of the set"
+    if out.len() < bytes.len() {
+        return Err(7);
+    }
+    out[..bytes.len()].copy_from_slice(&bytes);
+    Ok(())
+}

@@ -1,0 +1,183 @@
+//! Properties of many generated sets, and what the generator reaches.
+
+use reference::forecast::{entry, entry_count};
+use reference::generate::{any_set, case, file, Random};
+use reference::*;
+use std::collections::BTreeMap;
+
+const SEEDS: u64 = 6_000;
+
+#[test]
+fn every_refusal_and_every_kind_of_acceptance_occurs() {
+    let mut refused = BTreeMap::new();
+    let mut accepted = BTreeMap::new();
+    let mut sizes = BTreeMap::new();
+    for seed in 0..SEEDS {
+        let case = case(seed);
+        match forecast(&case.file, case.m, case.method, case.basis, case.out_len) {
+            Ok(_) => {
+                *accepted.entry((case.method, case.basis)).or_insert(0) += 1;
+                *sizes.entry(case.m).or_insert(0) += 1;
+            }
+            Err(refusal) => *refused.entry(refusal).or_insert(0) += 1,
+        }
+        if back_test(&case.file, case.m, case.cut, case.method, case.basis) == Err(8) {
+            *refused.entry(8).or_insert(0) += 1;
+        }
+    }
+    println!("refused {refused:?}\naccepted {accepted:?}\nby m {sizes:?}");
+    assert!(
+        (1..=14).all(|refusal| refused.get(&refusal) > Some(&50)),
+        "{refused:?}"
+    );
+    for method in 0..3 {
+        for basis in 0..2 {
+            assert!(accepted.get(&(method, basis)) > Some(&200), "{accepted:?}");
+        }
+    }
+    assert!((2..=20).all(|m| sizes.get(&m) > Some(&10)), "{sizes:?}");
+}
+
+/// Delays above 10^9 and below -10^9 in one accepted set, for small and large m; delays at the
+/// limits of question 12; IDCL's special years.
+#[test]
+fn special_sets_occur() {
+    let (mut wild, mut wild_large, mut near) = (0, 0, 0);
+    let (mut positive, mut negative, mut below_zero) = (0, 0, 0);
+    let (mut unpaid, mut rounded_away, mut by_share) = (0, 0, 0);
+    for seed in 0..SEEDS {
+        let case = case(seed);
+        let Ok(found) = forecast(&case.file, case.m, case.method, case.basis, usize::MAX) else {
+            continue;
+        };
+        let p = delays(&case.file, case.m).unwrap();
+        let swings = p.iter().any(|&p| p > 1_000_000_000) && p.iter().any(|&p| p < -1_000_000_000);
+        wild += usize::from(swings);
+        wild_large += usize::from(swings && case.m >= 12);
+        near += usize::from(p.iter().any(|p| p.abs() > 7_999_900_000));
+        if case.method != 2 {
+            continue;
+        }
+        let set = read_set(&case.file, case.m).unwrap();
+        let estimates = reference::shares::estimates(&set).unwrap();
+        let bases = row_bases::row_bases(&set, &estimates, 2).ok().unwrap();
+        below_zero += usize::from(bases.v.iter().any(Big::is_negative));
+        for i in 2..=set.m {
+            let paid = estimates.paid.latest(i);
+            if estimates.u[i - 1] != paid {
+                continue;
+            }
+            positive += usize::from(found.leftovers[i - 1] > 0);
+            negative += usize::from(found.leftovers[i - 1] < 0);
+            let settled = estimates.g[set.m - i] == rounding::scale();
+            by_share += usize::from(settled && !paid.is_zero());
+            unpaid += usize::from(!settled && paid.is_zero());
+            rounded_away += usize::from(!settled && !paid.is_zero());
+        }
+    }
+    let delays = [wild, wild_large, near];
+    let years = [
+        positive,
+        negative,
+        below_zero,
+        unpaid,
+        rounded_away,
+        by_share,
+    ];
+    println!("delays {delays:?} years {years:?}");
+    assert!(delays.iter().all(|&times| times > 50), "{delays:?}");
+    assert!(years.iter().all(|&times| times > 50), "{years:?}");
+}
+
+#[test]
+fn demand_3_holds() {
+    let mut accepted = 0;
+    let mut closest = Big::zero();
+    for seed in 0..SEEDS {
+        let case = case(seed);
+        let Ok(years) = demand3(&case.file, case.m) else {
+            continue;
+        };
+        accepted += 1;
+        for (at, year) in years.iter().enumerate() {
+            assert!(year.within, "seed {seed}, year {}", at + 1);
+            closest = closest.max(year.closeness());
+        }
+        assert!(years[0].distance.upper.is_zero());
+    }
+    println!("{accepted} files, at most {closest} billionths of the bound");
+    assert!(accepted > 2_000, "{accepted}");
+    assert!(closest > Big::from(500_000_000i64) && closest <= Big::from(1_000_000_000i64));
+}
+
+/// Known cells are zero, and year i has no RBNS where every reported claim's last delay has passed.
+#[test]
+fn known_cells_are_zero() {
+    for seed in 0..2_000 {
+        let case = case(seed);
+        let Ok(found) = forecast(&case.file, case.m, case.method, case.basis, usize::MAX) else {
+            continue;
+        };
+        let m = case.m as usize;
+        assert_eq!(found.entries.len(), entry_count(m));
+        for i in 1..=m {
+            for j in 0..2 * m - 1 {
+                let at = entry(m, i, j);
+                assert!(i + j > m || found.entries[at..at + 2] == [0, 0]);
+                assert!(j < 2 * m - i || found.entries[at] == 0);
+                assert!(i > 1 || found.entries[at + 1] == 0);
+            }
+        }
+    }
+}
+
+/// "The number is the sum of s - t for t = 1 to the smaller of c and s - 1", and a sum's error
+/// never exceeds the sum of its parts' errors.
+#[test]
+fn back_tests_are_consistent() {
+    let mut accepted = 0;
+    for seed in 0..2_000 {
+        let case = case(seed);
+        let Ok(found) = back_test(&case.file, case.m, case.cut, case.method, case.basis) else {
+            continue;
+        };
+        let s = case.m - case.cut;
+        let cells: u64 = (1..=case.cut.min(s - 1)).map(|t| s - t).sum();
+        assert_eq!(found.cells, cells);
+        assert!(found.in_all <= found.by_year && found.by_year <= found.by_cell);
+        accepted += 1;
+    }
+    assert!(accepted > 500);
+}
+
+/// A back-test that cuts one year off a set that continues its own forecast finds no error.
+#[test]
+fn back_test_of_a_forecast_finds_no_error() {
+    let mut random = Random::new(5);
+    let mut tested = 0;
+    for _ in 0..3_000 {
+        let set = any_set(&mut random);
+        let (s, m) = (set.m, set.m + 1);
+        let Ok(found) = forecast(&file(&set), s as u64, 0, 1, usize::MAX) else {
+            continue;
+        };
+        if m > 20 {
+            continue;
+        }
+        let mut longer = set.clone();
+        longer.m = m;
+        for i in 2..=s {
+            let at = entry(s, i, m - i);
+            longer.paid[records::place(i, m - i)] = found.entries[at] + found.entries[at + 1];
+        }
+        let in_range = |paid: &i64| records::range(1).contains(paid);
+        if !longer.paid.iter().all(in_range) {
+            continue;
+        }
+        let found = back_test(&file(&longer), m as u64, 1, 0, 1).unwrap();
+        let errors = [found.by_cell, found.by_year, found.in_all];
+        assert_eq!((found.cells, errors), (s as u64 - 1, [0; 3]));
+        tested += 1;
+    }
+    assert!(tested > 500, "{tested}");
+}

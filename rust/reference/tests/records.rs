@@ -1,0 +1,156 @@
+//! The reader and the writer.
+
+mod common;
+
+use common::{file_without_incurred, set_k};
+use reference::generate::{any_set, file, shuffled_file, writer_case, Random};
+use reference::records::{cells, file_length, place};
+use reference::*;
+
+#[test]
+fn bytes_of_a_record() {
+    let bytes = file(&set_k());
+    assert_eq!(bytes.len(), 9 * 16);
+    let record = |kind: u8, i: u8, j: u8, value: i64| {
+        let mut record = vec![kind, i, j, 0, 0, 0, 0, 0];
+        record.extend(value.to_le_bytes());
+        record
+    };
+    for expected in [
+        record(0, 1, 0, 80),
+        record(0, 1, 1, 20),
+        record(0, 2, 0, 90),
+        record(1, 1, 1, 400),
+        record(2, 2, 0, 1080),
+    ] {
+        let found = bytes.chunks(16).filter(|found| *found == expected);
+        assert_eq!(found.count(), 1);
+    }
+}
+
+#[test]
+fn negative_values_are_twos_complement() {
+    let mut set = set_k();
+    set.incurred[place(1, 1)] = -2;
+    let bytes = file(&set);
+    let negative = bytes
+        .chunks(16)
+        .find(|record| record[..3] == [2, 1, 1])
+        .unwrap();
+    assert_eq!(negative[8..], [254, 255, 255, 255, 255, 255, 255, 255]);
+    assert_eq!(read_set(&bytes, 2), Ok(set));
+}
+
+#[test]
+fn length_decides_whether_incurred_is_there() {
+    let bytes = file_without_incurred(&set_k());
+    assert_eq!(bytes.len(), 6 * 16);
+    let read = read_set(&bytes, 2).unwrap();
+    assert!(!read.incurred_there);
+    assert_eq!(read.incurred, [0; 400]);
+    assert_eq!((read.counts, read.paid), (set_k().counts, set_k().paid));
+}
+
+#[test]
+fn what_is_written_reads_back_in_any_order() {
+    let mut random = Random::new(1);
+    for _ in 0..1_000 {
+        let set = any_set(&mut random);
+        let m = set.m as u64;
+        assert_eq!(read_set(&file(&set), m), Ok(set.clone()));
+        let shuffled = shuffled_file(&mut random, &set);
+        assert_eq!(read_set(&shuffled, m), Ok(set));
+    }
+}
+
+#[test]
+fn order_changes_no_answer() {
+    let mut random = Random::new(2);
+    for round in 0..300 {
+        let set = any_set(&mut random);
+        let m = set.m as u64;
+        let (method, basis) = (round % 3, round % 2);
+        let (one, other) = (file(&set), shuffled_file(&mut random, &set));
+        assert_eq!(shares(&one, m), shares(&other, m));
+        assert_eq!(delays(&one, m), delays(&other, m));
+        assert_eq!(claim_costs(&one, m), claim_costs(&other, m));
+        assert_eq!(
+            forecast(&one, m, method, basis, 2_000),
+            forecast(&other, m, method, basis, 2_000)
+        );
+        assert_eq!(
+            back_test(&one, m, 1, method, basis),
+            back_test(&other, m, 1, method, basis)
+        );
+    }
+}
+
+/// Bytes past the set and, on a refusal, all bytes keep their values; numbers outside the cells
+/// are not read.
+#[test]
+fn generated_writes() {
+    let mut outcomes = [0; 8];
+    for seed in 0..2_000 {
+        let case = writer_case(seed);
+        let before: Vec<u8> = (0..case.out_len).map(|at| at as u8 ^ 0x5a).collect();
+        let mut out = before.clone();
+        let answer = write_set(
+            case.m,
+            case.incurred_there,
+            &case.counts,
+            &case.paid,
+            &case.incurred,
+            &mut out,
+        );
+        match answer {
+            Err(refusal) => {
+                outcomes[refusal as usize] += 1;
+                assert_eq!(out, before);
+            }
+            Ok(()) => {
+                outcomes[0] += 1;
+                let length = file_length(case.m as usize, case.incurred_there);
+                assert_eq!(out[length..], before[length..]);
+                let set = read_set(&out[..length], case.m).unwrap();
+                assert_eq!(set.incurred_there, case.incurred_there);
+                let given = [&case.counts, &case.paid, &case.incurred];
+                for kind in 0..set.kinds() {
+                    for (i, j) in cells(set.m) {
+                        let at = place(i, j);
+                        assert_eq!(set.triangle(kind)[at], given[usize::from(kind)][at]);
+                    }
+                }
+            }
+        }
+    }
+    assert!(outcomes[0] > 1_000, "{outcomes:?}");
+    assert!(
+        [1, 5, 7].iter().all(|&refusal| outcomes[refusal] >= 20),
+        "{outcomes:?}"
+    );
+    assert!([2, 3, 4, 6].iter().all(|&refusal| outcomes[refusal] == 0));
+}
+
+#[test]
+fn writer_takes_its_questions_in_order() {
+    let mut bad = set_k();
+    bad.counts[0] = -1;
+    let write = |m: u64, set: &Set, there: bool, length: usize| {
+        let mut out = vec![7; length];
+        let answer = write_set(m, there, &set.counts, &set.paid, &set.incurred, &mut out);
+        assert!(answer.is_ok() || out.iter().all(|&byte| byte == 7));
+        answer
+    };
+    assert_eq!(write(1, &bad, true, 0), Err(1));
+    assert_eq!(write(21, &bad, true, 0), Err(1));
+    assert_eq!(write(2, &bad, true, 0), Err(5));
+    assert_eq!(write(2, &set_k(), true, 143), Err(7));
+    assert_eq!(write(2, &set_k(), true, 144), Ok(()));
+    assert_eq!(write(2, &set_k(), false, 95), Err(7));
+    assert_eq!(write(2, &set_k(), false, 96), Ok(()));
+    // Incurred is not looked at where it is not there.
+    let mut far = set_k();
+    far.incurred.fill(i64::MAX);
+    assert_eq!(write(2, &far, false, 96), Ok(()));
+    assert_eq!(write(2, &far, true, 144), Err(5));
+}

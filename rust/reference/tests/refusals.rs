@@ -1,0 +1,315 @@
+//! A refusal for each question, and their order.
+
+mod common;
+
+use common::{file_without_incurred, set, set_k};
+use reference::generate::file;
+use reference::*;
+
+fn dcl(file: &[u8], m: u64) -> Result<Forecast, Refusal> {
+    forecast(file, m, 0, 1, 2_000)
+}
+
+/// The refusals of the calls that take a file alone: reader, shares, delays, claim costs.
+fn of_file(file: &[u8], m: u64) -> [Option<Refusal>; 4] {
+    [
+        read_set(file, m).err(),
+        shares(file, m).err(),
+        delays(file, m).err(),
+        claim_costs(file, m).err(),
+    ]
+}
+
+/// Refused with this number by every call that takes a file.
+fn refused_by_all(file: &[u8], m: u64, refusal: Refusal) {
+    assert_eq!(of_file(file, m), [Some(refusal); 4]);
+    assert_eq!(dcl(file, m), Err(refusal));
+    assert_eq!(back_test(file, m, 1, 0, 1), Err(refusal));
+    assert_eq!(demand3(file, m).err(), Some(refusal));
+}
+
+#[test]
+fn question_1() {
+    for m in [0, 1, 21, 22, 258, u64::MAX] {
+        refused_by_all(&file(&set_k()), m, 1);
+    }
+}
+
+#[test]
+fn question_2() {
+    let good = file(&set_k());
+    for length in [0, 1, 15, 16, 95, 97, 112, 143] {
+        refused_by_all(&good[..length], 2, 2);
+    }
+    refused_by_all(&[&good[..], &[0]].concat(), 2, 2);
+    refused_by_all(&good, 3, 2);
+    refused_by_all(&good, 20, 2);
+}
+
+#[test]
+fn question_3() {
+    let good = file(&set_k());
+    let short = file_without_incurred(&set_k());
+    // The first record is a count of cell (1,0), the second of (1,1), the third of (2,0).
+    let changes = [
+        (0, 3),
+        (0, 255),
+        (1, 0),
+        (1, 3),
+        (1, 255),
+        (2, 2),
+        (2, 255),
+        (17, 2),
+        (34, 1),
+        (3, 1),
+        (7, 128),
+        (5, 255),
+    ];
+    for (at, byte) in changes {
+        let mut damaged = good.clone();
+        damaged[at] = byte;
+        refused_by_all(&damaged, 2, 3);
+        let mut damaged = short.clone();
+        damaged[at] = byte;
+        refused_by_all(&damaged, 2, 3);
+    }
+    let mut incurred_in_short = short.clone();
+    incurred_in_short[0] = 2;
+    refused_by_all(&incurred_in_short, 2, 3);
+}
+
+#[test]
+fn question_4() {
+    let good = file(&set_k());
+    for (from, to) in [(0, 1), (8, 0), (3, 8)] {
+        let mut doubled = good.clone();
+        doubled.copy_within(16 * from..16 * from + 16, 16 * to);
+        refused_by_all(&doubled, 2, 4);
+        // With the other record's value kept.
+        let mut doubled = good.clone();
+        doubled.copy_within(16 * from..16 * from + 3, 16 * to);
+        refused_by_all(&doubled, 2, 4);
+    }
+}
+
+#[test]
+fn question_5() {
+    let good = file(&set_k());
+    let ten_to_10 = 10_000_000_000i64;
+    let with = |record: usize, value: i64| {
+        let mut changed = good.clone();
+        changed[16 * record + 8..16 * record + 16].copy_from_slice(&value.to_le_bytes());
+        changed
+    };
+    for (record, value) in [
+        (0, -1),
+        (2, 10_000_001),
+        (3, -1),
+        (5, ten_to_10 + 1),
+        (6, -ten_to_10 - 1),
+        (8, ten_to_10 + 1),
+        (0, i64::MIN),
+        (8, i64::MAX),
+    ] {
+        refused_by_all(&with(record, value), 2, 5);
+    }
+    for (record, value) in [(0, 0), (0, 10_000_000), (3, ten_to_10), (8, -ten_to_10)] {
+        assert!(read_set(&with(record, value), 2).is_ok());
+    }
+}
+
+/// A lower number wins wherever its record stands.
+#[test]
+fn questions_3_to_5_go_over_the_whole_file() {
+    let mut damaged = file(&set_k());
+    damaged[8..16].copy_from_slice(&(-1i64).to_le_bytes());
+    refused_by_all(&damaged, 2, 5);
+    damaged.copy_within(7 * 16..8 * 16, 6 * 16);
+    refused_by_all(&damaged, 2, 4);
+    damaged[8 * 16 + 4] = 1;
+    refused_by_all(&damaged, 2, 3);
+    damaged.pop();
+    refused_by_all(&damaged, 2, 2);
+}
+
+#[test]
+fn question_6() {
+    let (long, short) = (file(&set_k()), file_without_incurred(&set_k()));
+    for (method, basis) in [(3, 1), (0, 2), (256, 0), (u64::MAX, 0), (0, u64::MAX)] {
+        assert_eq!(forecast(&long, 2, method, basis, 12), Err(6));
+        assert_eq!(back_test(&long, 2, 1, method, basis), Err(6));
+    }
+    for method in [1, 2] {
+        assert_eq!(forecast(&short, 2, method, 1, 0), Err(6));
+        assert!(forecast(&long, 2, method, 1, 12).is_ok());
+    }
+    let mut damaged = short.clone();
+    damaged[15] = 128;
+    assert_eq!(forecast(&damaged, 2, 3, 1, 12), Err(5));
+}
+
+#[test]
+fn question_7() {
+    let no_counts = set(&[&[0, 0], &[90]], &[&[600, 400], &[660]], None);
+    assert_eq!(forecast(&file(&no_counts), 2, 0, 1, 11), Err(7));
+    assert_eq!(forecast(&file(&no_counts), 2, 0, 1, 12), Err(9));
+    assert_eq!(forecast(&file(&set_k()), 2, 0, 1, 11), Err(7));
+    assert!(forecast(&file(&set_k()), 2, 0, 1, 12).is_ok());
+}
+
+#[test]
+fn question_8() {
+    for c in [0, 1, 2, u64::MAX] {
+        assert_eq!(back_test(&file(&set_k()), 2, c, 0, 1), Err(8));
+    }
+    let no_counts: &[&[i64]] = &[&[0, 0, 0], &[0, 0], &[0]];
+    let three = set(no_counts, no_counts, None);
+    assert_eq!(back_test(&file(&three), 3, 0, 0, 1), Err(8));
+    assert_eq!(back_test(&file(&three), 3, 2, 0, 1), Err(8));
+    assert_eq!(back_test(&file(&three), 3, 1, 0, 1), Err(9));
+}
+
+/// Questions 9 to 11, which the forecast, shares, delays and claim costs take.
+fn unfit(set: &Set, refusal: Refusal) {
+    let file = file(set);
+    let m = set.m as u64;
+    assert_eq!(
+        of_file(&file, m),
+        [None, Some(refusal), Some(refusal), Some(refusal)]
+    );
+    assert_eq!(dcl(&file, m), Err(refusal));
+}
+
+#[test]
+fn question_9() {
+    unfit(&set(&[&[0, 0], &[1]], &[&[0, 0], &[0]], None), 9);
+    unfit(&set(&[&[1, 0], &[0]], &[&[0, 0], &[0]], None), 9);
+    // A row may start with no counts.
+    let late = set(
+        &[&[1, 1, 0], &[0, 1], &[1]],
+        &[&[1, 0, 0], &[1, 0], &[1]],
+        None,
+    );
+    assert!(shares(&file(&late), 3).is_ok());
+}
+
+#[test]
+fn question_10() {
+    unfit(&set(&[&[1, 0], &[1]], &[&[0, 0], &[5]], None), 10);
+    // B(1) = 0 and B(2) above zero.
+    let counts: &[&[i64]] = &[&[1, 0, 0], &[1, 0], &[1]];
+    unfit(&set(counts, &[&[0, 0, 5], &[0, 0], &[5]], None), 10);
+    // B(1) above zero and B(2) = 0.
+    unfit(&set(counts, &[&[0, 0, 0], &[5, 0], &[5]], None), 10);
+}
+
+#[test]
+fn question_11() {
+    // Both halves, and A(1) = 0 of counts and of paid.
+    unfit(&set(&[&[1, 1000], &[1]], &[&[1, 0], &[1]], None), 11);
+    unfit(&set(&[&[1, 0], &[1]], &[&[1, 1000], &[1]], None), 11);
+    unfit(&set(&[&[0, 1], &[1]], &[&[1, 0], &[1]], None), 11);
+    unfit(&set(&[&[1, 0], &[1]], &[&[0, 1], &[1]], None), 11);
+    assert!(shares(&file(&set(&[&[1, 999], &[1]], &[&[1, 999], &[1]], None)), 2).is_ok());
+}
+
+#[test]
+fn question_12() {
+    let wide = set(&[&[25, 75], &[50]], &[&[751, 249], &[750]], None);
+    let refused = [None, None, Some(12), None];
+    assert_eq!(of_file(&file(&wide), 2), refused);
+    assert_eq!(dcl(&file(&wide), 2), Err(12));
+}
+
+/// Methods 1 and 2 refuse, method 0 does not ask.
+fn unfit_incurred(set: &Set, refusals: [Option<Refusal>; 3]) {
+    let found = [0, 1, 2].map(|method| forecast(&file(set), set.m as u64, method, 0, 2_000).err());
+    assert_eq!(found, refusals);
+}
+
+fn with_incurred(incurred: &[&[i64]]) -> Set {
+    set(&[&[80, 20], &[90]], &[&[600, 400], &[660]], Some(incurred))
+}
+
+#[test]
+fn question_13() {
+    let refused = [None, Some(13), Some(13)];
+    unfit_incurred(&with_incurred(&[&[0, 100], &[5]]), refused);
+    unfit_incurred(&with_incurred(&[&[-1, 100], &[5]]), refused);
+    unfit_incurred(&with_incurred(&[&[100, -100], &[5]]), refused);
+    unfit_incurred(&with_incurred(&[&[100, -101], &[5]]), refused);
+    unfit_incurred(&with_incurred(&[&[100, 0], &[-1]]), refused);
+    unfit_incurred(&with_incurred(&[&[1, 1000], &[1]]), refused);
+    unfit_incurred(&with_incurred(&[&[4001, -3001], &[1000]]), refused);
+    // Both ends of g(0), and a latest row sum of zero.
+    unfit_incurred(&with_incurred(&[&[1, 999], &[1]]), [None; 3]);
+    unfit_incurred(&with_incurred(&[&[4000, -3000], &[1000]]), [None; 3]);
+    unfit_incurred(&with_incurred(&[&[100, 0], &[0]]), [None; 3]);
+}
+
+/// g(1) leaves the range and g(0) is within it again.
+#[test]
+fn question_13_asks_every_share() {
+    let counts: &[&[i64]] = &[&[1, 0, 0], &[1, 0], &[1]];
+    let paid: &[&[i64]] = &[&[1, 0, 0], &[1, 0], &[1]];
+    let incurred: &[&[i64]] = &[&[5, 0, -4], &[1, 29], &[1]];
+    let wide = set(counts, paid, Some(incurred));
+    let g = reference::shares::Triangle::new(3, &wide.incurred).g();
+    let g: Vec<i64> = g.iter().map(|share| share.to_i64().unwrap()).collect();
+    assert_eq!(g, [857_142_857, 5_000_000_000, 1_000_000_000]);
+    unfit_incurred(&wide, [None, Some(13), Some(13)]);
+}
+
+#[test]
+fn question_14() {
+    // BDCL: V(2) = 10^6 × W(2) / 10, at the limit and a unit above.
+    let bdcl = |latest: i64| {
+        set(
+            &[&[1, 0], &[1]],
+            &[&[1_000_000, 0], &[1]],
+            Some(&[&[10, 0], &[latest]]),
+        )
+    };
+    unfit_incurred(&bdcl(2_000_000_000), [None; 3]);
+    unfit_incurred(&bdcl(2_000_000_001), [None, Some(14), None]);
+    // IDCL: U(2) = 200001, R = 1; V(2) = 200001 × R*, on both sides.
+    let idcl = |incurred: i64| {
+        set(
+            &[&[1, 0], &[1]],
+            &[&[200_000, 1], &[200_000]],
+            Some(&[&[1_000_000_000, 0], &[incurred]]),
+        )
+    };
+    let reserve = 200_000_000_000_000 / 200_001;
+    unfit_incurred(&idcl(200_000 + reserve), [None; 3]);
+    unfit_incurred(&idcl(200_001 + reserve), [None, None, Some(14)]);
+    let negative = |paid: i64| {
+        set(
+            &[&[1, 0], &[1]],
+            &[&[paid, 1], &[paid]],
+            Some(&[&[1_000_000_000, 0], &[0]]),
+        )
+    };
+    // V(2) = -paid (paid + 1).
+    unfit_incurred(&negative(14_142_135), [None; 3]);
+    unfit_incurred(&negative(14_142_136), [None, None, Some(14)]);
+}
+
+/// The back-test puts questions 9 on to the cut set only.
+#[test]
+fn back_test_asks_the_cut_set() {
+    let late_fault = set(
+        &[&[80, 20, 0], &[90, 25], &[0]],
+        &[&[600, 400, 50], &[660, 430], &[700]],
+        None,
+    );
+    assert_eq!(dcl(&file(&late_fault), 3), Err(9));
+    assert!(back_test(&file(&late_fault), 3, 1, 0, 1).is_ok());
+    let early_fault = set(
+        &[&[80, 20, 0], &[0, 25], &[100]],
+        &[&[600, 400, 50], &[660, 430], &[700]],
+        None,
+    );
+    assert!(dcl(&file(&early_fault), 3).is_ok());
+    assert_eq!(back_test(&file(&early_fault), 3, 1, 0, 1), Err(9));
+}

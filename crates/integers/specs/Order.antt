@@ -160,6 +160,11 @@ natAbs-*ℤ (negsuc a) (negsuc b) = refl
 pub natAbs-+ℤ : (x y : ℤ) → natAbs (x +ℤ y) ≤ natAbs x + natAbs y
 natAbs-+ℤ x y = lin (x ∷ y ∷ []) (le-refl (natAbs x) & le-refl (natAbs y)) (search stmt) (omega arith)
 
+pub natAbs-nonneg-+ℤ : {x y : ℤ} → pos 0 ≤ℤ x → pos 0 ≤ℤ y → natAbs (x +ℤ y) ≡ natAbs x + natAbs y
+natAbs-nonneg-+ℤ {x = pos a} {y = pos b} p q = refl
+natAbs-nonneg-+ℤ {x = pos a} {y = negsuc b} p q = absurd (q .le)
+natAbs-nonneg-+ℤ {x = negsuc a} {y = y} p q = absurd (p .le)
+
 pub natAbs--ℤ : (x y : ℤ) → natAbs (x -ℤ y) ≤ natAbs x + natAbs y
 natAbs--ℤ x y = lin (x ∷ y ∷ []) (le-refl (natAbs x) & le-refl (natAbs y)) (search stmt) (omega arith)
 

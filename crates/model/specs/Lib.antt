@@ -1,6 +1,7 @@
 -- The definitions of document 01, a file for each of its sections, in its order.
 pub mod Lists
 pub mod ListsLaws
+pub mod Overlay
 pub mod Records
 pub mod RecordsLaws
 pub mod Rounding

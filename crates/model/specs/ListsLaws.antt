@@ -1,10 +1,10 @@
 -- Laws of Lists. Assumes nothing.
 use mathlib.Core.Path.{_≡_, refl, sym, _∙_, ap, subst}
 use mathlib.Core.Bool.{Bool, true, false, _&&_, cond, and-false, false≢true}
-use mathlib.Core.List.{List, [], _∷_}
+use mathlib.Core.List.{List, [], _∷_, _++_}
 use mathlib.Core.Logic.{⊎-elim}
 use Prim.Native.Nat.{ℕ, zero, suc, _+_, _<_, _≤_}
-use native.Mathlib.Nat.{le-of-suc-le-suc, not-suc-le-zero, eq-or-lt-of-le}
+use native.Mathlib.Nat.{le-of-suc-le-suc, not-suc-le-zero, eq-or-lt-of-le, zero-add}
 use native.Mathlib.Numerals.{add-one}
 use native.Mathlib.Omega.{arith}
 use lib.Dec.{ltb}
@@ -36,6 +36,24 @@ pub tabulate-ext : {A : Type 0} (n : ℕ) (f g : ℕ → A) → ((k : ℕ) → k
 unfolding tabulate
 tabulate-ext zero f g e = refl
 tabulate-ext (suc n) f g e = rw (e 0 (omega arith), tabulate-ext n (λ k. f (suc k)) (λ k. g (suc k)) (λ k h. e (suc k) (omega arith)))
+
+-- one element more, and a second list behind the first
+pub tabulate-last : {A : Type 0} (n : ℕ) (f : ℕ → A) → tabulate (n + 1) f ≡ tabulate n f ++ (f n ∷ [])
+unfolding tabulate
+tabulate-last zero f = refl
+tabulate-last (suc n) f =
+    let e : suc n + 1 ≡ suc (n + 1) = omega arith in
+    rw e (ap (λ l. f 0 ∷ l) (tabulate-last n (λ k. f (suc k))))
+
+pub tabulate-append : {A : Type 0} (a b : ℕ) (f : ℕ → A) → tabulate (a + b) f ≡ tabulate a f ++ tabulate b (λ k. f (a + k))
+unfolding tabulate
+tabulate-append zero b f = rw (zero-add b) (tabulate-ext b f (λ k. f (0 + k)) (λ k h. rw (zero-add k)))
+tabulate-append (suc a) b f =
+    let e : suc a + b ≡ suc (a + b) = omega arith in
+    rw e
+    (ap (λ l. f 0 ∷ l)
+    (tabulate-append a b (λ k. f (suc k))
+    ∙ ap (λ l. tabulate a (λ k. f (suc k)) ++ l) (tabulate-ext b (λ k. f (suc (a + k))) (λ k. f (suc a + k)) (λ k h. let d : suc a + k ≡ suc (a + k) = omega arith in rw d))))
 
 tabulate-same : {A : Type 0} (n : ℕ) (d : A) → replicate n d ≡ tabulate n (λ _. d)
 unfolding tabulate

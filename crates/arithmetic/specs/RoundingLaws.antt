@@ -1,0 +1,180 @@
+-- The laws of r, document 01's rounding. What stands above cites these by name and never opens r or nearest.
+-- Of the laws only `r-next` and `r-previous`, its mirror, know how a half is rounded: each other law holds for any rounding to the nearest number that keeps the sign.
+-- Assumes nothing.
+use mathlib.Core.Path.{_≡_, refl, sym, ap, _∙_}
+use mathlib.Core.Logic.{_⊎_, inl, inr}
+use mathlib.Core.Bool.{Bool, true, false, cond}
+use mathlib.Core.List.{[], _∷_}
+use Prim.Native.Nat.{ℕ, zero, suc, _+_, _*_, _/_, _%_, _≤_, _<_}
+use native.Mathlib.Nat.{mod-lt, div-add-mod', suc-mul}
+use native.Mathlib.Omega.{arith}
+use borrow.Author.Tests.{ltb-true, ltb-false, le-ltb}
+use lib.Arith.{digits-div, digits-mod}
+use lib.Dec.{ltb}
+use lib.IntN.{ℤ, pos, negsuc, negℤ, natAbs, _+ℤ_, _-ℤ_, _*ℤ_, negℤ-negℤ}
+use lib.Signed.{clashℤ, ≤ℤ-refl}
+use Rattle.integers.specs.Parts.{_⩽_, _⋖_, ints, mul-parts}
+use Rattle.integers.specs.Ring.{negℤ-*ℤ}
+use Rattle.integers.specs.Solver.{ring, form}
+use Rattle.integers.specs.Linear.{_&_}
+use Rattle.integers.specs.Monomials.{nlin, nstmt}
+use Rattle.integers.specs.Order.{<ℤ-or-≥, <ℤ-≤ℤ, <ℤ-suc, *ℤ-mono-r, ≤ℤ-antisym, nonneg, pos-mono, natAbs-≤, natAbs-mono, natAbs-negℤ}
+use Rattle.model.specs.Rounding.{nearest, r, WithinHalf}
+use Rattle.integers.specs.Absolute.{∣_∣}
+
+-- ---- in ℕ: twice the distance is at most b
+
+nearest-by : (t : Bool) (a b : ℕ) → 0 < b → ltb (2 * (a % b)) b ≡ t
+    → (2 * (cond t (a / b) (suc (a / b)) * b) ≤ 2 * a + b) × (2 * a ≤ 2 * (cond t (a / b) (suc (a / b)) * b) + b)
+nearest-by true a b h e = let l : 2 * (a % b) < b = ltb-true _ _ e in (omega (arith, div-add-mod' a b), omega (arith, div-add-mod' a b))
+nearest-by false a b h e =
+    let l : b ≤ 2 * (a % b) = ltb-false _ _ e in
+    (omega (arith, div-add-mod' a b, suc-mul (a / b) b), omega (arith, div-add-mod' a b, suc-mul (a / b) b, mod-lt a h))
+
+nearest-bounds : (a b : ℕ) → 0 < b → (2 * (nearest a b * b) ≤ 2 * a + b) × (2 * a ≤ 2 * (nearest a b * b) + b)
+unfolding nearest
+nearest-bounds a b h = nearest-by (ltb (2 * (a % b)) b) a b h refl
+
+nearest-zero : (b : ℕ) → 0 < b → nearest 0 b ≡ 0
+nearest-zero b h = go (nearest 0 b) (nearest-bounds 0 b h .0)
+  where
+    go : (k : ℕ) → 2 * (k * b) ≤ 2 * 0 + b → k ≡ 0
+    go zero l = refl
+    go (suc k) l = absurd (omega (arith, suc-mul k b))
+
+-- ---- what the laws rest on
+
+-- the sign goes through
+pub r-neg : (a b : ℤ) → pos 0 ⋖ b → r (negℤ a) b ≡ negℤ (r a b)
+unfolding r
+r-neg (pos zero) (pos b) h = rw (nearest-zero b (omega (arith, ints)))
+r-neg (pos zero) (negsuc b) h = absurd (h .lt)
+r-neg (pos (suc n)) b h = refl
+r-neg (negsuc n) b h = sym (negℤ-negℤ (pos (nearest (suc n) (natAbs b))))
+
+bounds⁺ : (n b : ℕ) → pos 0 ⋖ pos b → (pos 2 *ℤ (r (pos n) (pos b) *ℤ pos b) ⩽ pos 2 *ℤ pos n +ℤ pos b) × (pos 2 *ℤ pos n ⩽ pos 2 *ℤ (r (pos n) (pos b) *ℤ pos b) +ℤ pos b)
+unfolding r
+bounds⁺ n b h = let g : 0 < b = omega (arith, ints) in (omega (arith, ints, nearest-bounds n b g .0), omega (arith, ints, nearest-bounds n b g .1))
+
+r-bounds : (a b : ℤ) → pos 0 ⋖ b → (pos 2 *ℤ (r a b *ℤ b) ⩽ pos 2 *ℤ a +ℤ b) × (pos 2 *ℤ a ⩽ pos 2 *ℤ (r a b *ℤ b) +ℤ b)
+r-bounds a (negsuc b) h = absurd (h .lt)
+r-bounds (pos n) (pos b) h = bounds⁺ n b h
+r-bounds (negsuc n) (pos b) h = turned (r (pos (suc n)) (pos b)) (r (negsuc n) (pos b)) (pos (suc n)) (pos b) (r-neg (pos (suc n)) (pos b) h) (bounds⁺ (suc n) b h)
+  where
+    turned : (k k′ a b : ℤ) → k′ ≡ negℤ k → (pos 2 *ℤ (k *ℤ b) ⩽ pos 2 *ℤ a +ℤ b) × (pos 2 *ℤ a ⩽ pos 2 *ℤ (k *ℤ b) +ℤ b)
+        → (pos 2 *ℤ (k′ *ℤ b) ⩽ pos 2 *ℤ negℤ a +ℤ b) × (pos 2 *ℤ negℤ a ⩽ pos 2 *ℤ (k′ *ℤ b) +ℤ b)
+    turned k k′ a b e h = rw e (nlin (k ∷ a ∷ b ∷ []) (h .0 & h .1) (search nstmt depth 20) (omega arith), nlin (k ∷ a ∷ b ∷ []) (h .0 & h .1) (search nstmt depth 20) (omega arith))
+
+-- within one half, as two orders
+pub r-upper : (a b : ℤ) → pos 0 ⋖ b → pos 2 *ℤ (r a b *ℤ b) ⩽ pos 2 *ℤ a +ℤ b
+r-upper a b h = r-bounds a b h .0
+
+pub r-lower : (a b : ℤ) → pos 0 ⋖ b → pos 2 *ℤ a ⩽ pos 2 *ℤ (r a b *ℤ b) +ℤ b
+r-lower a b h = r-bounds a b h .1
+
+-- ---- what follows
+
+-- a factor in common
+below-next : (k z b : ℤ) → pos 0 ⋖ b → k *ℤ b ⋖ z *ℤ b +ℤ b → k ⩽ z
+below-next k z b h l = go (<ℤ-or-≥ z k)
+  where
+    go : (z ⋖ k) ⊎ (k ⩽ z) → k ⩽ z
+    go (inl g) = clashℤ l (nlin (k ∷ z ∷ b ∷ []) (*ℤ-mono-r b (<ℤ-≤ℤ h) (<ℤ-suc .0 g)) (search nstmt depth 20) (omega arith))
+    go (inr g) = g
+
+twice : (x b : ℤ) → pos 2 *ℤ x ⩽ b → negℤ b ⩽ pos 2 *ℤ x → pos 2 *ℤ ∣ x ∣ ⩽ b
+unfolding ∣_∣
+twice (pos n) b h k = h
+twice (negsuc n) b h k = nlin (negsuc n ∷ b ∷ []) {G = pos 2 *ℤ negℤ (negsuc n) ⩽ b} k (search nstmt depth 20) (omega arith)
+
+-- "the nearest whole number": within one half
+pub r-near : WithinHalf r
+r-near = record {
+  near = λ a b h.
+      twice (b *ℤ r a b -ℤ a) b
+      (nlin (r a b ∷ a ∷ b ∷ []) (r-upper a b h) (search nstmt depth 20) (omega arith))
+      (nlin (r a b ∷ a ∷ b ∷ []) (r-lower a b h) (search nstmt depth 20) (omega arith));
+}
+
+-- nothing else is nearer than one half
+pub r-unique : (a b z : ℤ) → pos 0 ⋖ b → pos 2 *ℤ (z *ℤ b) ⋖ pos 2 *ℤ a +ℤ b → pos 2 *ℤ a ⋖ pos 2 *ℤ (z *ℤ b) +ℤ b → r a b ≡ z
+r-unique a b z h l u =
+    ≤ℤ-antisym
+    (below-next (r a b) z b h (nlin (r a b ∷ a ∷ b ∷ z ∷ []) (r-upper a b h & u) (search nstmt depth 20) (omega arith)))
+    (below-next z (r a b) b h (nlin (r a b ∷ a ∷ b ∷ z ∷ []) (r-lower a b h & l) (search nstmt depth 20) (omega arith)))
+
+-- a whole number at or above a / b bounds it
+pub r-most : (a b c : ℤ) → pos 0 ⋖ b → a ⩽ c *ℤ b → r a b ⩽ c
+r-most a b c h l = below-next (r a b) c b h (nlin (r a b ∷ a ∷ b ∷ c ∷ []) (r-upper a b h & l & h) (search nstmt depth 20) (omega arith))
+
+-- and one at or below a / b
+pub r-least : (a b c : ℤ) → pos 0 ⋖ b → c *ℤ b ⩽ a → c ⩽ r a b
+r-least a b c h l = below-next c (r a b) b h (nlin (r a b ∷ a ∷ b ∷ c ∷ []) (r-lower a b h & l & h) (search nstmt depth 20) (omega arith))
+
+-- at a multiple of b
+pub r-exact : (k b : ℤ) → pos 0 ⋖ b → r (k *ℤ b) b ≡ k
+r-exact k b h = ≤ℤ-antisym (r-most (k *ℤ b) b k h (≤ℤ-refl (k *ℤ b))) (r-least (k *ℤ b) b k h (≤ℤ-refl (k *ℤ b)))
+
+-- a greater numerator rounds to no less
+pub r-mono : (a a′ b : ℤ) → pos 0 ⋖ b → a ⩽ a′ → r a b ⩽ r a′ b
+r-mono a a′ b h l = go (<ℤ-or-≥ a a′)
+  where
+    go : (a ⋖ a′) ⊎ (a′ ⩽ a) → r a b ⩽ r a′ b
+    go (inl g) = below-next (r a b) (r a′ b) b h (nlin (r a b ∷ r a′ b ∷ a ∷ a′ ∷ b ∷ []) (r-upper a b h & r-lower a′ b h & g) (search nstmt depth 20) (omega arith))
+    go (inr g) = rw (≤ℤ-antisym l g) (≤ℤ-refl (r a′ b))
+
+-- the sign is kept
+pub r-nonneg : (a b : ℤ) → pos 0 ⋖ b → pos 0 ⩽ a → pos 0 ⩽ r a b
+r-nonneg a b h l = r-least a b (pos 0) h (nlin (a ∷ b ∷ []) l (search nstmt depth 20) (omega arith))
+
+-- from 0 to c
+pub r-within : (a b c : ℤ) → pos 0 ⋖ b → pos 0 ⩽ a → a ⩽ c *ℤ b → (pos 0 ⩽ r a b) × (r a b ⩽ c)
+r-within a b c h l u = (r-nonneg a b h l, r-most a b c h u)
+
+-- ---- magnitudes
+
+-- |r(a/b)| <= c where |a| <= c × b
+pub r-abs : (a b : ℤ) (c : ℕ) → pos 0 ⋖ b → natAbs a ≤ c * natAbs b → natAbs (r a b) ≤ c
+r-abs a (negsuc b) c h l = absurd (h .lt)
+r-abs a (pos b) c h l = natAbs-≤ .1 (
+  r-most a (pos b) (pos c) h (natAbs-≤ .0 l .0),
+  r-least a (pos b) (negℤ (pos c)) h (rw negℤ-*ℤ (natAbs-≤ .0 l .1)),
+)
+
+-- and c <= |r(a/b)| where c × b <= |a|
+pub r-abs-least : (a b : ℤ) (c : ℕ) → pos 0 ⋖ b → c * natAbs b ≤ natAbs a → c ≤ natAbs (r a b)
+r-abs-least a (negsuc b) c h l = absurd (h .lt)
+r-abs-least (pos a) (pos b) c h l = omega (arith, ints, natAbs-mono (nonneg c) (r-least (pos a) (pos b) (pos c) h (pos-mono .0 l)))
+r-abs-least (negsuc a) (pos b) c h l =
+    rw (r-neg (pos (suc a)) (pos b) h, natAbs-negℤ) (natAbs-mono (nonneg c) (r-least (pos (suc a)) (pos b) (pos c) h (pos-mono .0 l)))
+
+-- ---- from a quotient and a remainder
+
+-- a remainder below half of b
+pub r-quotient : (q c b : ℤ) → pos 0 ⋖ b → negℤ b ⋖ pos 2 *ℤ c → pos 2 *ℤ c ⋖ b → r (q *ℤ b +ℤ c) b ≡ q
+r-quotient q c b h l u =
+    r-unique (q *ℤ b +ℤ c) b q h
+    (nlin (q ∷ c ∷ b ∷ []) l (search nstmt depth 20) (omega arith))
+    (nlin (q ∷ c ∷ b ∷ []) u (search nstmt depth 20) (omega arith))
+
+-- a remainder from half of b on: "halves go away from zero"
+pub r-next : (q c b : ℤ) → pos 0 ⋖ b → pos 0 ⩽ q *ℤ c → c ⋖ b → b ⩽ pos 2 *ℤ c → r (q *ℤ b +ℤ c) b ≡ q +ℤ pos 1
+unfolding r nearest
+r-next q c (negsuc b) h s l u = absurd (h .lt)
+r-next q (negsuc c) (pos b) h s l u = absurd (omega (arith, ints, mul-parts (pos 2) (negsuc c)))
+r-next q (pos zero) (pos b) h s l u = absurd (omega (arith, ints))
+r-next (negsuc q) (pos (suc c)) (pos b) h s l u = absurd (omega (arith, ints, mul-parts (negsuc q) (pos (suc c))))
+r-next (pos q) (pos (suc c)) (pos b) h s l u =
+    let c<b : suc c < b = omega (arith, ints) in
+    rw (digits-mod q c<b, digits-div q c<b, le-ltb (2 * suc c) b (omega (arith, ints))) (ap pos (omega arith))
+
+-- the same below zero, by the sign
+pub r-previous : (q c b : ℤ) → pos 0 ⋖ b → pos 0 ⩽ q *ℤ c → negℤ b ⋖ c → pos 2 *ℤ c ⩽ negℤ b → r (q *ℤ b +ℤ c) b ≡ q -ℤ pos 1
+r-previous q c b h s l u =
+    let e : q *ℤ b +ℤ c ≡ negℤ (negℤ q *ℤ b +ℤ negℤ c) = ring (q ∷ c ∷ b ∷ []) (search form depth 20) tt in
+    let n : r (negℤ q *ℤ b +ℤ negℤ c) b ≡ negℤ q +ℤ pos 1 =
+    r-next (negℤ q) (negℤ c) b h
+    (nlin (q ∷ c ∷ []) s (search nstmt depth 20) (omega arith))
+    (nlin (c ∷ b ∷ []) l (search nstmt depth 20) (omega arith))
+    (nlin (c ∷ b ∷ []) u (search nstmt depth 20) (omega arith)) in
+    ap (λ (z : ℤ). r z b) e ∙ r-neg (negℤ q *ℤ b +ℤ negℤ c) b h ∙ ap negℤ n ∙ ring (q ∷ []) (search form depth 20) tt

@@ -1,0 +1,169 @@
+// Rounded quotients of whole numbers, also past 64 bits: document 01's "Rounding".
+
+ghost use mathlib.Core.Path.{_≡_};
+ghost use Prim.Native.Nat.{_+_, _*_, _/_, _^_, _<_, _≤_};
+ghost use lib.IntN.{pos, natAbs, _*ℤ_, _+ℤ_};
+ghost use Rattle.integers.specs.Parts.{_⩽_, _⋖_};
+ghost use Rattle.model.specs.Rounding.{S, r};
+ghost use Rattle.arithmetic.specs.Signed.{signed};
+ghost use Rattle.arithmetic.specs.Capped.{capped};
+
+// A whole number, unless it lies past a cap.
+pub enum Capped {
+    Within(i64),
+    TooLarge,
+}
+
+// An exact quotient and its remainder.
+struct Quotient {
+    q: u64,
+    rem: u64,
+}
+
+// A product of two numbers below 2^48: top × 2^32 + mid × 2^16 + low.
+struct Wide {
+    top: u64,
+    mid: u64,
+    low: u64,
+}
+
+// The base of a product's digits.
+const BASE: u64 = 65536;
+
+// S, and S squared.
+const SCALE: u64 = 1000000000;
+
+const SQUARE: u64 = 1000000000000000000;
+
+// The whole number nearest to (q × d + rem) / d, from a quotient and a remainder toward zero. This function alone knows how a half is rounded.
+pub fn round_quotient(q: i64, rem: i64, d: i64) -> i64
+    requires { ⌜ (pos 0 ⋖ d) × (natAbs d ≤ 10 ^ 18) × (natAbs rem < natAbs d) × (pos 0 ⩽ q *ℤ rem) × (natAbs q ≤ 9 * 10 ^ 18) ⌝ }
+    ensures { λ k. ⌜ k ≡ r (q *ℤ d +ℤ rem) d ⌝ }
+{
+    if rem < 0 {
+        if -rem >= d + rem { q - 1 } else { q }
+    } else {
+        if rem >= d - rem { q + 1 } else { q }
+    }
+}
+
+// The whole number nearest to a / b.
+pub fn round_div(a: i64, b: i64) -> i64
+    requires { ⌜ (pos 0 ⋖ b) × (natAbs b ≤ 10 ^ 18) × (natAbs a ≤ 9 * 10 ^ 18) ⌝ }
+    ensures { λ k. ⌜ k ≡ r a b ⌝ }
+{
+    round_quotient(a / b, a % b, b)
+}
+
+// A number without its sign.
+fn magnitude(a: i64) -> u64
+    requires { ⌜ natAbs a ≤ 9 * 10 ^ 18 ⌝ }
+    ensures { λ m. ⌜ m ≡ natAbs a ⌝ }
+{
+    if a < 0 { (-a) as u64 } else { a as u64 }
+}
+
+// The rounding of a quotient and a remainder of magnitudes, which stand for a number below zero where `negative` says so.
+fn round_signed(negative: bool, q: u64, rem: u64, d: i64) -> i64
+    requires { ⌜ (pos 0 ⋖ d) × (natAbs d ≤ 10 ^ 18) × (rem < natAbs d) × (q ≤ 10 ^ 18) ⌝ }
+    ensures { λ k. ⌜ k ≡ r (signed negative (q * natAbs d + rem)) d ⌝ }
+{
+    if negative {
+        round_quotient(-(q as i64), -(rem as i64), d)
+    } else {
+        round_quotient(q as i64, rem as i64, d)
+    }
+}
+
+// a × x, digit by digit of x.
+fn widening_mul(a: u64, x: u64) -> Wide
+    requires { ⌜ (a < 2 ^ 48) × (x < 2 ^ 48) ⌝ }
+    ensures { λ p. ⌜ ((p .top * 65536 + p .mid) * 65536 + p .low ≡ a * x) × (p .mid < 65536) × (p .low < 65536) ⌝ }
+{
+    let low = a * (x % BASE);
+    let mid = a * (x / BASE % BASE) + low / BASE;
+    Wide {
+        top: a * (x / BASE / BASE) + mid / BASE,
+        mid: mid % BASE,
+        low: low % BASE,
+    }
+}
+
+// The product of two magnitudes.
+fn wide_product(a: i64, x: i64) -> Wide
+    requires { ⌜ (natAbs a < 2 ^ 48) × (natAbs x < 2 ^ 48) ⌝ }
+    ensures { λ p. ⌜ ((p .top * 65536 + p .mid) * 65536 + p .low ≡ natAbs a * natAbs x) × (p .mid < 65536) × (p .low < 65536) ⌝ }
+{
+    widening_mul(magnitude(a), magnitude(x))
+}
+
+// One more digit of what is divided by d: q × d + rem so far.
+fn next_digit(q: u64, rem: u64, digit: u64, d: u64) -> Quotient
+    requires { ⌜ (q < 2 ^ 32) × (rem < d) × (d < 2 ^ 48) × (digit < 65536) ⌝ }
+    ensures { λ s. ⌜ (s .q * d + s .rem ≡ (q * d + rem) * 65536 + digit) × (s .rem < d) × (s .q < (q + 1) * 65536) ⌝ }
+{
+    let t = rem * BASE + digit;
+    Quotient {
+        q: q * BASE + t / d,
+        rem: t % d,
+    }
+}
+
+// A product divided by d, where the quotient is below 2^48.
+fn divide(p: Wide, d: u64) -> Quotient
+    requires { ⌜ (p .top / 65536 < d) × (p .mid < 65536) × (p .low < 65536) × (d < 2 ^ 48) ⌝ }
+    ensures { λ s. ⌜ (s .q * d + s .rem ≡ (p .top * 65536 + p .mid) * 65536 + p .low) × (s .rem < d) × (s .q < 2 ^ 48) ⌝ }
+{
+    let s = next_digit(p.top / d, p.top % d, p.mid, d);
+    next_digit(s.q, s.rem, p.low, d)
+}
+
+// The whole number nearest to a × x / d, where that is below 2^48. A product that fits a word takes one division, so the smaller factor goes second.
+pub fn mul_div(a: i64, x: i64, d: i64) -> i64
+    requires { ⌜ (natAbs a < 2 ^ 48) × (natAbs x < 2 ^ 48) × (pos 0 ⋖ d) × (natAbs d < 2 ^ 48) × (natAbs a * natAbs x < 2 ^ 48 * natAbs d) ⌝ }
+    ensures { λ k. ⌜ k ≡ r (a *ℤ x) d ⌝ }
+{
+    if magnitude(a) <= 8 * SCALE && magnitude(x) <= SCALE {
+        return round_div(a * x, d);
+    }
+    let s = divide(wide_product(a, x), magnitude(d));
+    round_signed((a < 0) != (x < 0), s.q, s.rem, d)
+}
+
+// The whole number nearest to a × x / d, where its magnitude is at most cap.
+pub fn mul_div_capped(a: i64, x: i64, d: i64, cap: u64) -> Capped
+    requires { ⌜ (natAbs a < 2 ^ 48) × (natAbs x < 2 ^ 48) × (pos 0 ⋖ d) × (natAbs d < 2 ^ 48) × (cap < 2 ^ 48) ⌝ }
+    ensures { λ k. ⌜ k ≡ capped cap (r (a *ℤ x) d) ⌝ }
+{
+    let p = wide_product(a, x);
+    if p.top / BASE >= magnitude(d) {
+        return Capped::TooLarge;
+    }
+    let k = mul_div(a, x, d);
+    if magnitude(k) > cap {
+        return Capped::TooLarge;
+    }
+    Capped::Within(k)
+}
+
+// v × x / S², by digits in base S.
+fn divide_by_square(v: u64, x: u64) -> Quotient
+    requires { ⌜ (v ≤ 2 * 10 ^ 14) × (x ≤ 9 * 10 ^ 18) ⌝ }
+    ensures { λ s. ⌜ (s .q * 1000000000000000000 + s .rem ≡ v * x) × (s .rem < 1000000000000000000) × (s .q ≤ 10 ^ 18) ⌝ }
+{
+    let mid = v / SCALE * (x % SCALE) + v % SCALE * (x / SCALE);
+    let low = mid % SCALE * SCALE + v % SCALE * (x % SCALE);
+    Quotient {
+        q: v / SCALE * (x / SCALE) + mid / SCALE + low / SQUARE,
+        rem: low % SQUARE,
+    }
+}
+
+// A cell: the whole number nearest to v × x / S².
+pub fn scale_cell(v: i64, x: i64) -> i64
+    requires { ⌜ (natAbs v ≤ 2 * 10 ^ 14) × (natAbs x ≤ 9 * 10 ^ 18) ⌝ }
+    ensures { λ k. ⌜ k ≡ r (v *ℤ x) (S *ℤ S) ⌝ }
+{
+    let s = divide_by_square(magnitude(v), magnitude(x));
+    round_signed((v < 0) != (x < 0), s.q, s.rem, SQUARE as i64)
+}

@@ -1,0 +1,2 @@
+-- What each probe answers.
+pub mod Probes

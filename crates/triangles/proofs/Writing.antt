@@ -1,0 +1,82 @@
+-- From the writer's questions to `Wrote`. Assumes nothing.
+use Prim.Native.Nat.{ℕ, suc, _+_, _≤_, _<_}
+use native.Mathlib.Omega.{arith}
+use native.Mathlib.Nat.{zero-add}
+use mathlib.Core.Path.{_≡_, refl, ap, _∙_}
+use mathlib.Core.Bool.{Bool, true, false, cond}
+use mathlib.Core.List.{List, _++_}
+use borrow.Author.Tests.{le-leb, lt-leb}
+use lib.ListN.{length, take, drop, length-append}
+use lib.Seq.{take-at, drop-at}
+use lib.IntN.{ℤ}
+use Rattle.model.specs.Records.{setLength}
+use Rattle.model.specs.Questions.{q1, q4, q5Writer, q7Writer, kinds, firstNo}
+use Rattle.model.specs.Calls.{writeRefusal, readAnswer, Wrote}
+use Rattle.triangles.specs.Written.{ofKind, kindBytes, kindsBytes, setBytes}
+use Rattle.triangles.specs.RoundTrip.{length-set, once-each, read-back}
+use Rattle.model.specs.Overlay.{overlay, overlay-more}
+
+-- ---- the kinds, one after the other
+module _ (m : ℕ) (a b c : List ℤ) where
+  pub set-length : (three : Bool) → length (setBytes m three a b c) ≡ length (kindBytes m 0 a 400) + length (kindBytes m 1 b 400) + cond three (length (kindBytes m 2 c 400)) 0
+  unfolding setBytes kindsBytes ofKind kinds
+  set-length true = rw (length-append, length-append)
+  set-length false = rw length-append (omega arith)
+
+  module _ (d e f : List ℕ) (n : ℕ) (one : e ≡ overlay d 0 (kindBytes m 0 a 400)) (en : n ≡ 0 + length (kindBytes m 0 a 400)) (two : f ≡ overlay e n (kindBytes m 1 b 400)) where
+    pub set-two : f ≡ overlay d 0 (setBytes m false a b c)
+    unfolding setBytes kindsBytes ofKind kinds
+    set-two = two ∙ rw one (overlay-more d 0 (kindBytes m 0 a 400) (kindBytes m 1 b 400) n (omega arith) en)
+
+    pub set-three : (g : List ℕ) (k : ℕ) → k ≡ n + length (kindBytes m 1 b 400) → g ≡ overlay f k (kindBytes m 2 c 400) → g ≡ overlay d 0 (setBytes m true a b c)
+    unfolding setBytes kindsBytes ofKind kinds
+    set-three g k ek three =
+        three ∙ rw set-two (overlay-more d 0 (kindBytes m 0 a 400 ++ kindBytes m 1 b 400) (kindBytes m 2 c 400) k (omega arith) (rw length-append (omega arith)))
+
+-- ---- the cases of `Wrote`
+module _ (m : ℕ) (three : Bool) (a b c : List ℤ) (d : List ℕ) where
+  no : (r : ℕ) → suc r ≡ writeRefusal m three a b c (length d) → Wrote m three a b c d d (suc r)
+  no r e = record { result = e; refused = λ _. refl; once = λ z. absurd (bad z); written = λ z. absurd (bad z); kept = λ z. absurd (bad z) }
+    where
+      bad : suc r ≡ 0 → ⊥
+      bad z = omega arith
+
+  pub no-1 : q1 m ≡ false → Wrote m three a b c d d 1
+  unfolding writeRefusal firstNo
+  no-1 s = no 0 (rw s)
+
+  module _ (s : q1 m ≡ true) where
+    pub no-5 : q5Writer m three a b c ≡ false → Wrote m three a b c d d 5
+    unfolding writeRefusal firstNo
+    no-5 o = no 4 (rw (s, o))
+
+    module _ (o : q5Writer m three a b c ≡ true) where
+      pub no-7 : length d < setLength m three → Wrote m three a b c d d 7
+      unfolding writeRefusal firstNo q7Writer
+      no-7 h = no 6 (rw (s, o, lt-leb (setLength m three) (length d) h))
+
+      abbrev bytes : List ℕ
+      bytes = setBytes m three a b c
+
+      abbrev long : length bytes ≡ setLength m three
+      long = length-set m a b c s three
+
+      front : take (setLength m three) (overlay d 0 bytes) ≡ bytes
+      unfolding overlay
+      front = take-at bytes _ (setLength m three) long
+
+      back : drop (setLength m three) (overlay d 0 bytes) ≡ drop (setLength m three) d
+      unfolding overlay
+      back = drop-at bytes _ (setLength m three) long ∙ ap (λ (n : ℕ). drop n d) (zero-add _ ∙ long)
+
+      pub yes : (new : List ℕ) → setLength m three ≤ length d → new ≡ overlay d 0 bytes → Wrote m three a b c d new 0
+      unfolding writeRefusal firstNo q7Writer
+      yes new h e =
+          let w : take (setLength m three) new ≡ bytes = ap (take (setLength m three)) e ∙ front in
+          record {
+            result = rw (s, o, le-leb (setLength m three) (length d) h);
+            refused = λ z. absurd (z refl);
+            once = λ _. (ap length w ∙ long, ap (q4 m) w ∙ once-each m a b c s three o);
+            written = λ _. ap (readAnswer m) w ∙ read-back m a b c s three o;
+            kept = λ _. ap (drop (setLength m three)) e ∙ back;
+          }

@@ -1,0 +1,13 @@
+-- `highest` meets its contract. Assumes nothing.
+use borrow.Author.Tests.{eq-eqb, ne-eqb}
+use Rattle.triangles.proofs.questions.highest.Statement.{statement}
+use Rattle.triangles.proofs.questions.highest.Tie as tie
+
+returns : tie.Need-returns
+returns c = simp (eq-eqb _ 0 (c .if1 .taken))
+
+returns-2 : tie.Need-returns-2
+returns-2 c = simp (ne-eqb _ 0 (c .if1 .left))
+
+pub highest-spec : {M : Type 1} → statement M
+highest-spec = tie.close (tie.spec returns returns-2)

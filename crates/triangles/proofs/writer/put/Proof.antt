@@ -1,0 +1,78 @@
+-- `put` meets its contract: the first k bytes are copied. Assumes nothing.
+use native.Mathlib.Omega.{arith}
+use borrow.Author.Needs.{needs}
+use Prim.Native.Nat.{ℕ, _≤_, _-_}
+use native.Mathlib.Numerals.{add-one}
+use mathlib.Core.Path.{_≡_, refl, _∙_}
+use mathlib.Core.List.{List}
+use lib.ListN.{length, length-set}
+use lib.Seq.{paste, paste-zero, paste-suc, take-all}
+use denote.Ref.{now}
+use Rattle.model.specs.Overlay.{overlay}
+use Rattle.triangles.proofs.writer.put.Statement.{statement}
+use Rattle.triangles.proofs.writer.put.Tie as tie
+
+abbrev Inv-loop : tie.InvT-loop
+Inv-loop out₀ a bytes k₀ out k = (k ≤ 16) × (out ≡ paste out₀ a bytes k) × (length out ≡ length out₀)
+
+abbrev μ-loop : tie.MeasureT-loop
+μ-loop out₀ a bytes k₀ out k = 16 - k
+
+sixteen : (c : tie.Start Inv-loop μ-loop) → length (c .args .t3) ≡ 16
+sixteen c = search needs
+
+whole : (d : List ℕ) (a : ℕ) (s : List ℕ) (k : ℕ) → k ≡ 16 → length s ≡ 16 → paste d a s k ≡ overlay d a s
+unfolding overlay
+whole d a s k e l = rw (e, l, take-all 16 s (omega arith))
+
+loop-holds : tie.Need-loop-holds Inv-loop μ-loop
+loop-holds c = (search needs, paste-zero (now (c .args .out)) (c .args .a) (c .args .t3), refl)
+
+array-read-out : tie.Need-array-read-out Inv-loop μ-loop
+array-read-out c = omega arith
+
+add-out : tie.Need-add-out Inv-loop μ-loop
+add-out c = omega arith
+
+slice-write-out : tie.Need-slice-write-out Inv-loop μ-loop
+slice-write-out c = omega arith
+
+add-k : tie.Need-add-k Inv-loop μ-loop
+add-k c = omega arith
+
+loop-less : tie.Need-loop-less Inv-loop μ-loop
+loop-less c = omega arith
+
+loop-again : tie.Need-loop-again Inv-loop μ-loop
+loop-again c =
+    let s = c .before .before in
+    let l = sixteen s in (
+      omega arith,
+      rw (c .before .loop .inv .1, add-one)
+          (paste-suc (now (s .args .out)) (s .args .a) (s .args .t3) (c .before .loop .k) 0 (omega arith) (omega arith)),
+      simp length-set (c .before .loop .inv .2),
+    )
+
+same-length : tie.Need-same-length Inv-loop μ-loop
+same-length c = c .before .loop .inv .2
+
+returns : tie.Need-returns Inv-loop μ-loop
+returns c =
+    let e : c .before .loop .k ≡ 16 = omega arith in
+    c .before .loop .inv .1 ∙ whole _ _ _ _ e (sixteen (c .before .before))
+
+pub put-spec : {M : Type 1} → statement M
+put-spec =
+    tie.close
+    (tie.spec
+    Inv-loop
+    μ-loop
+    loop-holds
+    array-read-out
+    add-out
+    slice-write-out
+    add-k
+    loop-less
+    loop-again
+    same-length
+    returns)

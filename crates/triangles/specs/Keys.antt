@@ -1,0 +1,28 @@
+-- A record's key: the number of its kind and cell among three lists of 400 places, one after the other.
+use Prim.Native.Nat.{ℕ, _+_, _-_, _*_, _≤_, _<_}
+use mathlib.Core.Bool.{cond}
+use mathlib.Core.List.{List}
+use lib.Dec.{eqb}
+use lib.IntN.{ℤ, pos}
+use Rattle.integers.specs.Sums.{sum}
+use Rattle.model.specs.Lists.{count}
+use Rattle.model.specs.Records.{kindAt, yearAt, delayAt, valueAt}
+
+unfoldable pub keyAt : List ℕ → ℕ → ℕ
+keyAt f k = 400 * kindAt f k + (20 * (yearAt f k - 1) + delayAt f k)
+
+-- each of the first n records has a year above 0 and a key below 1200
+abbrev pub Keyed : List ℕ → ℕ → Type 0
+Keyed f n = (k : ℕ) → k < n → (1 ≤ yearAt f k) × (keyAt f k < 1200)
+
+-- how many of the first n records have the key q
+unfoldable pub keyCount : List ℕ → ℕ → ℕ → ℕ
+keyCount f n q = count n (λ k. eqb (keyAt f k) q)
+
+-- the sum of their values
+unfoldable pub keySum : List ℕ → ℕ → ℕ → ℤ
+keySum f n q = sum n (λ k. cond (eqb (keyAt f k) q) (valueAt f k) (pos 0))
+
+-- no key stands twice among the first n records
+abbrev pub Distinct : List ℕ → ℕ → Type 0
+Distinct f n = (q : ℕ) → q < 1200 → keyCount f n q ≤ 1

@@ -1,0 +1,117 @@
+-- What is said of a record depends on its 16 bytes alone; and a fold over the records of a file. Assumes nothing.
+use mathlib.Core.Path.{_≡_, refl, sym, _∙_, ap, ap₂}
+use mathlib.Core.Bool.{Bool, _&&_, cond}
+use mathlib.Core.List.{List, _++_}
+use Prim.Native.Nat.{ℕ, zero, suc, _+_, _*_, _<_}
+use native.Mathlib.Nat.{add-zero}
+use native.Mathlib.Omega.{arith}
+use lib.Dec.{ltb}
+use lib.ListN.{length, getD, take, drop, length-append, length-drop}
+use lib.Seq.{getD-take, getD-drop, take-append-le, drop-append-le, drop-append-add}
+use Rattle.model.specs.Records.{inside, kindAt, yearAt, delayAt, sparesZero, leastFirst, signed, valueAt, records, isOf, hasIncurred, inRange}
+use Rattle.model.specs.Lists.{every}
+use Rattle.model.specs.Questions.{q3, kinds, recordOk}
+use Rattle.triangles.specs.Folds.{Monoid, fold, fold-ext, fold-split, joined}
+
+-- record k of a file
+unfoldable pub recordAt : List ℕ → ℕ → List ℕ
+recordAt f k = take 16 (drop (16 * k) f)
+
+-- bytes 0 to 2 of record k
+pub record HeadAt (f : List ℕ) (k : ℕ) (kind year delay : ℕ) : Type 0 where
+  pub kindIs : (kind ≡ kindAt f k) × (kind < 256)
+  pub yearIs : (year ≡ yearAt f k) × (year < 256)
+  pub delayIs : (delay ≡ delayAt f k) × (delay < 256)
+
+-- what G says of record k it says of the record alone
+abbrev pub Local : {A : Type 0} → (List ℕ → ℕ → A) → Type 0
+Local G = (f : List ℕ) (k : ℕ) → G f k ≡ G (recordAt f k) 0
+
+least-ext : (n : ℕ) (f g : List ℕ) (a b : ℕ) → ((i : ℕ) → i < n → getD f (a + i) 0 ≡ getD g (b + i) 0) → leastFirst n f a ≡ leastFirst n g b
+unfolding leastFirst
+least-ext zero f g a b h = refl
+least-ext (suc n) f g a b h =
+    ap₂ (λ (x y : ℕ). x + 256 * y) (moved 0 a b (omega arith) (omega arith) (omega arith))
+    (least-ext n f g (a + 1) (b + 1) (λ i l. moved (suc i) (a + 1 + i) (b + 1 + i) (omega arith) (omega arith) (omega arith)))
+  where
+    moved : (i x y : ℕ) → i < suc n → x ≡ a + i → y ≡ b + i → getD f x 0 ≡ getD g y 0
+    moved i x y l p q = ap (λ (z : ℕ). getD f z 0) p ∙ h i l ∙ ap (λ (z : ℕ). getD g z 0) (sym q)
+
+module _ (f : List ℕ) (k : ℕ) where
+  byte-local : (j : ℕ) → j < 16 → getD f (16 * k + j) 0 ≡ getD (recordAt f k) j 0
+  unfolding recordAt
+  byte-local j h = sym (getD-take 16 (drop (16 * k) f) j 0 h ∙ getD-drop (16 * k) f j 0)
+
+  pub kind-local : kindAt f k ≡ kindAt (recordAt f k) 0
+  kind-local = ap (λ (i : ℕ). getD f i 0) (sym (add-zero (16 * k))) ∙ byte-local 0 (omega arith)
+
+  pub year-local : yearAt f k ≡ yearAt (recordAt f k) 0
+  year-local = byte-local 1 (omega arith)
+
+  pub delay-local : delayAt f k ≡ delayAt (recordAt f k) 0
+  delay-local = byte-local 2 (omega arith)
+
+  pub spares-local : sparesZero f k ≡ sparesZero (recordAt f k) 0
+  unfolding sparesZero
+  spares-local =
+      rw (byte-local 3 (omega arith), byte-local 4 (omega arith), byte-local 5 (omega arith), byte-local 6 (omega arith), byte-local 7 (omega arith))
+
+  pub value-local : valueAt f k ≡ valueAt (recordAt f k) 0
+  unfolding valueAt
+  value-local = ap signed (least-ext 8 f (recordAt f k) (16 * k + 8) 8 (λ i l. ap (λ (x : ℕ). getD f x 0) (omega arith) ∙ byte-local (8 + i) (omega arith)))
+
+  pub isOf-local : (t i j : ℕ) → isOf f t i j k ≡ isOf (recordAt f k) t i j 0
+  unfolding isOf
+  isOf-local t i j = rw (kind-local, year-local, delay-local)
+
+-- question 3 of record k, where the length allows u kinds
+unfoldable pub wellFormed : ℕ → ℕ → List ℕ → ℕ → Bool
+wellFormed m u f k = ltb (kindAt f k) u && inside m (yearAt f k) (delayAt f k) && sparesZero f k
+
+pub wellFormed-local : (m u : ℕ) → Local (wellFormed m u)
+unfolding wellFormed
+wellFormed-local m u f k = rw (kind-local f k, year-local f k, delay-local f k, spares-local f k)
+
+pub q3-formed : (m : ℕ) (f : List ℕ) → q3 m f ≡ every (records f) (wellFormed m (kinds (hasIncurred m f)) f)
+unfolding q3 recordOk wellFormed
+q3-formed m f = refl
+
+-- question 5 of record k
+unfoldable pub ranged : List ℕ → ℕ → Bool
+ranged f k = inRange (kindAt f k) (valueAt f k)
+
+pub ranged-local : Local ranged
+unfolding ranged
+ranged-local f k = rw (kind-local f k, value-local f k)
+
+-- W of record k where it is that of kind t and cell (i,j), else z
+unfoldable pub ofCell : {A : Type 0} → A → (List ℕ → ℕ → A) → ℕ → ℕ → ℕ → List ℕ → ℕ → A
+ofCell z W t i j f k = cond (isOf f t i j k) (W f k) z
+
+pub ofCell-local : {A : Type 0} (z : A) (W : List ℕ → ℕ → A) (t i j : ℕ) → Local W → Local (ofCell z W t i j)
+unfolding ofCell
+ofCell-local z W t i j h f k = rw (isOf-local f k t i j, h f k)
+
+-- ---- over all records of a file
+
+unfoldable pub over : {A : Type 0} → Monoid A → (List ℕ → ℕ → A) → List ℕ → A
+over M G f = fold M (records f) (G f)
+
+-- of two files one after the other
+pub over-append : {A : Type 0} (M : Monoid A) (G : List ℕ → ℕ → A) → Local G → (f g : List ℕ) (n : ℕ) → length f ≡ 16 * n → over M G (f ++ g) ≡ M .op (over M G f) (over M G g)
+unfolding over recordAt
+over-append M G h f g n e =
+    ap (λ (i : ℕ). fold M i (G (f ++ g))) number ∙ fold-split M (records f) (records g) (G (f ++ g))
+    ∙ joined M (fold-ext M (records f) (G (f ++ g)) (G f) (λ k l. h (f ++ g) k ∙ ap (λ (r : List ℕ). G r 0) (front k l) ∙ sym (h f k)))
+    (fold-ext M (records g) (λ k. G (f ++ g) (records f + k)) (G g) (λ k l. h (f ++ g) (records f + k) ∙ ap (λ (r : List ℕ). G r 0) (back k) ∙ sym (h g k)))
+  where
+    number : records (f ++ g) ≡ records f + records g
+    number = rw (length-append f g, e) (omega arith)
+
+    front : (k : ℕ) → k < records f → recordAt (f ++ g) k ≡ recordAt f k
+    front k l = ap (take 16) (drop-append-le (16 * k) f g (omega arith)) ∙ take-append-le 16 (drop (16 * k) f) g (omega (arith, length-drop (16 * k) f))
+
+    back : (k : ℕ) → recordAt (f ++ g) (records f + k) ≡ recordAt g k
+    back k =
+        let z : 16 * (records f + k) ≡ length f + 16 * k = omega arith in
+        ap (λ (i : ℕ). take 16 (drop i (f ++ g))) z ∙ ap (take 16) (drop-append-add f g (16 * k))

@@ -1,0 +1,85 @@
+-- "Records may stand in any order, and order changes no answer.": files with the same records in any order have the same set and the same answers to
+-- questions 1 to 5, and every call's answer is made of these. Assumes nothing.
+use mathlib.Core.Path.{_≡_, refl, sym, _∙_, ap}
+use mathlib.Core.List.{List, List·Permᴰ}
+use Prim.Native.Nat.{ℕ, _/_, _%_, _+_}
+use lib.Dec.{eqb}
+use lib.IntN.{pos}
+use lib.ListN.{length}
+use Rattle.model.specs.Lists.{tabulate, count}
+use Rattle.model.specs.ListsLaws.{tabulate-ext, every-ext}
+use Rattle.model.specs.Records.{records, valueAt, copies, valueOf, hasIncurred, triangle, setOf}
+use Rattle.model.specs.Questions.{q2, q3, q4, q5, kinds, eachCell, ofRecords, ofFile}
+use Rattle.model.specs.Calls.{readRefusal, readAnswer}
+use Rattle.triangles.specs.Folds.{Monoid, alls, totals, sums, fold-ext, fold-list, foldList, foldList-perm, every-fold, total-fold, sum-fold}
+use Rattle.triangles.specs.OneRecord.{recordAt, Local, wellFormed, wellFormed-local, ranged, ranged-local, ofCell, ofCell-local, value-local, over, q3-formed}
+
+-- the records of a file, each its 16 bytes
+unfoldable pub recordsOf : List ℕ → List (List ℕ)
+recordsOf f = tabulate (records f) (recordAt f)
+
+-- two files of one length, whose lists of records are permutations of each other
+pub record SameRecords (f g : List ℕ) : Type 0 where
+  pub long : length f ≡ length g
+  pub order : List·Permᴰ (recordsOf f) (recordsOf g)
+
+over-list : {A : Type 0} (M : Monoid A) (G : List ℕ → ℕ → A) → Local G → (f : List ℕ) → over M G f ≡ foldList M (λ r. G r 0) (recordsOf f)
+unfolding over recordsOf
+over-list M G h f = fold-ext M (records f) (G f) (λ k. G (recordAt f k) 0) (λ k l. h f k) ∙ fold-list M (λ r. G r 0) (records f) (recordAt f)
+
+module _ (f g : List ℕ) (same : SameRecords f g) where
+  over-order : {A : Type 0} (M : Monoid A) (G : List ℕ → ℕ → A) → Local G → over M G f ≡ over M G g
+  over-order M G h = over-list M G h f ∙ foldList-perm M (λ r. G r 0) (same .order) ∙ sym (over-list M G h g)
+
+  copies-order : (t i j : ℕ) → copies f t i j ≡ copies g t i j
+  unfolding copies count over ofCell
+  copies-order t i j =
+      total-fold _ _ ∙ over-order totals (ofCell 0 (λ f k. 1) t i j) (ofCell-local 0 (λ f k. 1) t i j (λ f k. refl)) ∙ sym (total-fold _ _)
+
+  value-order : (t i j : ℕ) → valueOf f t i j ≡ valueOf g t i j
+  unfolding valueOf over ofCell
+  value-order t i j =
+      sum-fold _ _ ∙ over-order sums (ofCell (pos 0) valueAt t i j) (ofCell-local (pos 0) valueAt t i j value-local) ∙ sym (sum-fold _ _)
+
+  module _ (m : ℕ) where
+    pub hasIncurred-order : hasIncurred m f ≡ hasIncurred m g
+    unfolding hasIncurred
+    hasIncurred-order = rw (same .long)
+
+    q2-order : q2 m f ≡ q2 m g
+    unfolding q2
+    q2-order = rw (same .long)
+
+    q3-order : q3 m f ≡ q3 m g
+    unfolding over
+    q3-order =
+        q3-formed m f ∙ every-fold _ _ ∙ over-order alls (wellFormed m (kinds (hasIncurred m f))) (wellFormed-local m (kinds (hasIncurred m f)))
+        ∙ rw (hasIncurred-order) (sym (q3-formed m g ∙ every-fold _ _))
+
+    q4-order : q4 m f ≡ q4 m g
+    unfolding q4 eachCell
+    q4-order =
+        rw (hasIncurred-order)
+        (every-ext _ _ (kinds (hasIncurred m g)) (λ t h. every-ext _ _ m (λ k l. every-ext _ _ _ (λ j b. ap (λ (n : ℕ). eqb n 1) (copies-order t _ j)))))
+
+    q5-order : q5 m f ≡ q5 m g
+    unfolding q5 over ranged
+    q5-order = every-fold _ _ ∙ over-order alls ranged ranged-local ∙ sym (every-fold _ _)
+
+    triangle-order : (t : ℕ) → triangle m (valueOf f t) ≡ triangle m (valueOf g t)
+    unfolding triangle
+    triangle-order t = tabulate-ext 400 _ _ (λ p h. rw (value-order t (p / 20 + 1) (p % 20)))
+
+    -- questions 1 to 5 and their answers
+    pub questions-order : ofFile m f ≡ ofFile m g
+    unfolding ofFile ofRecords
+    questions-order = rw (q2-order, q3-order, q4-order, q5-order)
+
+    pub set-order : setOf m f ≡ setOf m g
+    unfolding setOf
+    set-order = rw (hasIncurred-order, triangle-order 0, triangle-order 1, triangle-order 2)
+
+    -- the reader's whole answer
+    pub read-order : readAnswer m f ≡ readAnswer m g
+    unfolding readAnswer readRefusal
+    read-order = rw (questions-order, set-order)

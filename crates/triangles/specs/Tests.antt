@@ -1,0 +1,21 @@
+-- Laws of tests. Assumes nothing.
+use mathlib.Core.Path.{_≡_, refl, sym}
+use mathlib.Core.Bool.{Bool, true, false, _||_, not}
+
+-- a proof by cases on a test
+pub by-test {ℓ} : {X : Type ℓ} (b : Bool) → (b ≡ true → X) → (b ≡ false → X) → X
+by-test true f g = f refl
+by-test false f g = g refl
+
+-- two tests that say yes together
+pub same-test : (a b : Bool) → (a ≡ true → b ≡ true) → (b ≡ true → a ≡ true) → a ≡ b
+same-test true b f g = sym (f refl)
+same-test false true f g = g refl
+same-test false false f g = refl
+
+-- a test that is asked only where b holds
+pub asked : (b x : Bool) → b ≡ true → (not b || x) ≡ x
+asked b x e = rw e
+
+pub not-asked : (b x : Bool) → b ≡ false → (not b || x) ≡ true
+not-asked b x e = rw e

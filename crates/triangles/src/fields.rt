@@ -1,0 +1,93 @@
+// The fields of a record of a file.
+ghost use mathlib.Core.Path.{_≡_};
+ghost use Prim.Native.Nat.{_+_, _*_, _≤_, _<_};
+ghost use lib.ListN.{length, getD};
+ghost use Rattle.model.specs.Records.{yearAt, sparesZero, leastFirst, signed, valueAt};
+ghost use Rattle.triangles.specs.Keys.{keyAt};
+ghost use Rattle.triangles.specs.OneRecord.{HeadAt};
+
+// The byte at a place of the file.
+pub fn byte(file: &[u8], at: usize) -> usize
+    requires { ⌜ at < length (now file) ⌝ }
+    ensures { λ r. ⌜ (r ≡ getD (now (file .entry)) at 0) × (r < 256) ⌝ }
+{
+    file[at] as usize
+}
+
+// Two, four and eight bytes, least byte first.
+fn two(file: &[u8], at: usize) -> usize
+    requires { ⌜ at + 2 ≤ length (now file) ⌝ }
+    ensures { λ r. ⌜ (r ≡ leastFirst 2 (now (file .entry)) at) × (r < 65536) ⌝ }
+{
+    byte(file, at) + 256 * byte(file, at + 1)
+}
+
+fn four(file: &[u8], at: usize) -> usize
+    requires { ⌜ at + 4 ≤ length (now file) ⌝ }
+    ensures { λ r. ⌜ (r ≡ leastFirst 4 (now (file .entry)) at) × (r < 4294967296) ⌝ }
+{
+    two(file, at) + 65536 * two(file, at + 2)
+}
+
+fn eight(file: &[u8], at: usize) -> usize
+    requires { ⌜ at + 8 ≤ length (now file) ⌝ }
+    ensures { λ r. ⌜ r ≡ leastFirst 8 (now (file .entry)) at ⌝ }
+{
+    four(file, at) + 4294967296 * four(file, at + 4)
+}
+
+// Bytes 0 to 2 of a record: its kind, its accident year and its delay.
+pub struct RecordHead {
+    pub kind: usize,
+    pub year: usize,
+    pub delay: usize,
+}
+
+pub fn head(file: &[u8], k: usize) -> RecordHead
+    requires { ⌜ 16 * k + 16 ≤ length (now file) ⌝ }
+    ensures { λ r. ⌜ HeadAt (now (file .entry)) k (r .kind) (r .year) (r .delay) ⌝ }
+{
+    let at = 16 * k;
+    let kind = byte(file, at);
+    let year = byte(file, at + 1);
+    let delay = byte(file, at + 2);
+    RecordHead { kind, year, delay }
+}
+
+// Whether bytes 3 to 7 of a record are zero.
+pub fn spares_zero(file: &[u8], k: usize) -> bool
+    requires { ⌜ 16 * k + 16 ≤ length (now file) ⌝ }
+    ensures { λ r. ⌜ r ≡ sparesZero (now (file .entry)) k ⌝ }
+{
+    let at = 16 * k;
+    four(file, at + 3) + byte(file, at + 7) == 0
+}
+
+// A number of 64 bits read as two's complement.
+fn to_signed(x: usize) -> i64
+    ensures { λ r. ⌜ r ≡ signed x ⌝ }
+{
+    if x < 9223372036854775808 {
+        return x as i64;
+    }
+    let y = 18446744073709551615 - x;
+    -1 - (y as i64)
+}
+
+// The value of a record.
+pub fn value(file: &[u8], k: usize) -> i64
+    requires { ⌜ 16 * k + 16 ≤ length (now file) ⌝ }
+    ensures { λ r. ⌜ r ≡ valueAt (now (file .entry)) k ⌝ }
+{
+    to_signed(eight(file, 16 * k + 8))
+}
+
+// The key of a record: 400 times its kind, and the place of its cell.
+pub fn key(file: &[u8], k: usize) -> usize
+    requires { ⌜ 16 * k + 16 ≤ length (now file) ⌝ }
+    requires { ⌜ 1 ≤ yearAt (now file) k ⌝ }
+    ensures { λ r. ⌜ r ≡ keyAt (now (file .entry)) k ⌝ }
+{
+    let h = head(file, k);
+    400 * h.kind + (20 * (h.year - 1) + h.delay)
+}

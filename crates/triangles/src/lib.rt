@@ -1,0 +1,107 @@
+// The reader and the writer of triangle sets: document 01, "Triangle records".
+mod cells;
+mod fields;
+mod questions;
+mod writer;
+
+ghost use mathlib.Core.Path.{_≡_};
+ghost use mathlib.Core.Bool.{true};
+ghost use Rattle.model.specs.Records.{hasIncurred};
+ghost use Rattle.model.specs.Questions.{q1, q2};
+ghost use Rattle.model.specs.Calls.{noSet, readAnswer, Wrote};
+
+// A refusal, with zeros beside it.
+fn refused(number: u64) -> model::ReadAnswer
+    ensures { λ r. ⌜ r ≡ record { refusal = number; set = noSet } ⌝ }
+{
+    let none = [0i64; 400];
+    model::ReadAnswer {
+        refusal: number,
+        set: model::TriangleSet {
+            three: false,
+            counts: none,
+            paid: none,
+            incurred: none,
+        },
+    }
+}
+
+// Questions 3 to 5, and the set that an accepted file holds.
+fn read_records(file: &[u8], m: usize, three: bool) -> model::ReadAnswer
+    requires { ⌜ q1 m ≡ true ⌝ }
+    requires { ⌜ q2 m (now file) ≡ true ⌝ }
+    requires { ⌜ three ≡ hasIncurred m (now file) ⌝ }
+    ensures { λ r. ⌜ r ≡ readAnswer m (now (file .entry)) ⌝ }
+{
+    let n = file.len() / 16;
+    let kinds = questions::kinds(three);
+    if !questions::records_ok(file, m, kinds, n) {
+        return refused(3);
+    }
+    if !questions::cells_once(file, n) {
+        return refused(4);
+    }
+    if !questions::values_ok(file, n) {
+        return refused(5);
+    }
+    let cells = cells::by_key(file, n);
+    let counts = cells::of_kind(&cells, 0);
+    let paid = cells::of_kind(&cells, 1);
+    let incurred = cells::of_kind(&cells, 2);
+    model::ReadAnswer {
+        refusal: 0,
+        set: model::TriangleSet {
+            three,
+            counts,
+            paid,
+            incurred,
+        },
+    }
+}
+
+// The reader: questions 1 to 5, and the set.
+pub fn read_set(file: &[u8], m: usize) -> model::ReadAnswer
+    ensures { λ r. ⌜ r ≡ readAnswer m (now (file .entry)) ⌝ }
+{
+    if m < 2 {
+        return refused(1);
+    }
+    if 20 < m {
+        return refused(1);
+    }
+    let cells = m * (m + 1);
+    if file.len() == 16 * cells {
+        return read_records(file, m, false);
+    }
+    if file.len() == 24 * cells {
+        return read_records(file, m, true);
+    }
+    refused(2)
+}
+
+// The writer: questions 1, 5 and 7, and the set's records at the front of the output.
+pub fn write_set(
+    m: usize,
+    three: bool,
+    counts: [i64; 400],
+    paid: [i64; 400],
+    incurred: [i64; 400],
+    out: &mut [u8],
+) -> u64
+    ensures { λ r. ⌜ Wrote m three counts paid incurred (now (out .entry)) (now (out .exit)) r ⌝ }
+{
+    if m < 2 {
+        return 1;
+    }
+    if 20 < m {
+        return 1;
+    }
+    if !questions::set_ok(m, three, counts, paid, incurred) {
+        return 5;
+    }
+    if out.len() < writer::set_length(m, three) {
+        return 7;
+    }
+    writer::put_set(m, three, counts, paid, incurred, out);
+    0
+}

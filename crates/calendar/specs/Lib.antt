@@ -8,3 +8,4 @@ pub mod Pages
 pub mod Runs
 pub mod Cut
 pub mod ReadBack
+pub mod Respond

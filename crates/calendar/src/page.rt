@@ -91,7 +91,7 @@ pub fn write_page(out: &mut [u8], m: usize, t: Tally) -> usize
 }
 
 // Writes the bytes of s at the start of the output.
-fn write_bytes(out: &mut [u8], s: &[u8]) -> usize
+pub fn write_bytes(out: &mut [u8], s: &[u8]) -> usize
     requires { ⌜ length (now s) ≤ length (now out) ⌝ }
     ensures { λ r. ⌜ Written (now (out .entry)) 0 (now (s .entry)) (now (out .exit)) r ⌝ }
 {

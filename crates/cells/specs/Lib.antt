@@ -10,3 +10,4 @@ pub mod EntryLaws
 pub mod YearsLaws
 pub mod Ready
 pub mod ReadyLaws
+pub mod SmallLaws

@@ -1,6 +1,6 @@
 -- One triangle t of a set, on the way from its sums x through its cumulative shares y to its chain ladder. Assumes nothing.
 use mathlib.Core.Path.{_≡_, _∙_, ap}
-use mathlib.Core.Bool.{Bool, true}
+use mathlib.Core.Bool.{true}
 use mathlib.Core.List.{List}
 use Prim.Native.Nat.{ℕ, _^_, _≤_, _<_}
 use lib.IntN.{ℤ, pos}
@@ -11,7 +11,7 @@ use Rattle.model.specs.Shares.{B, g, gList}
 use Rattle.chain_ladder.specs.Sums.{Small, sumsOf}
 use Rattle.chain_ladder.specs.Ladder.{bounded, Steps, Ready, boundedOf, gOf, grown, laddered}
 use Rattle.chain_ladder.specs.Developed.{development}
-use Rattle.chain_ladder.specs.DevelopedLaws.{steps, ready, bounded-is, bounded-yes, ultimates-are, laddered-is}
+use Rattle.chain_ladder.specs.LadderLaws.{steps, ready, bounded-is, bounded-yes, ultimates-are, laddered-is}
 use Rattle.chain_ladder.specs.declared.TriangleSums.{TriangleSums}
 use Rattle.chain_ladder.specs.declared.ladder.Bounded.{Bounded}
 

@@ -1,15 +1,14 @@
 -- A file that the reader accepts holds a valid set: each of its values is in range, and each cell is the value of its one record. Assumes nothing.
 use mathlib.Core.Path.{_≡_, refl, sym, _∙_, ap, subst}
-use mathlib.Core.Bool.{Bool, true, false, _&&_, _||_, not, cond}
+use mathlib.Core.Bool.{Bool, true, cond}
 use mathlib.Core.List.{List, _++_}
 use Prim.Native.Nat.{ℕ, zero, suc, _+_, _≤_, _<_}
-use native.Mathlib.Nat.{not-suc-le-zero}
 use native.Mathlib.Omega.{arith}
 use borrow.Author.Tests.{eqb-true, eqb-false, ne-eqb}
 use lib.Dec.{eqb}
-use lib.IntN.{ℤ, pos, _+ℤ_, +ℤ-idl, +ℤ-idr}
+use lib.IntN.{ℤ, pos, +ℤ-idl, +ℤ-idr}
 use Rattle.integers.specs.Sums.{sum}
-use Rattle.model.specs.Lists.{every, total, count}
+use Rattle.model.specs.Lists.{total, count}
 use Rattle.model.specs.ListsLaws.{every-at, and-left}
 use Rattle.model.specs.Records.{cell, kindAt, valueAt, records, isOf, copies, valueOf, hasIncurred, triangle, setOf, inRange}
 use Rattle.model.specs.RecordsLaws.{cell-triangle}

@@ -17,9 +17,11 @@ use Rattle.chain_ladder.specs.declared.Incurred.{Incurred}
 unfoldable pub development : ℕ → List ℤ → Development
 development m t = record { latest = latests m t; g = gList m t; shares = bList m t; ultimates = Shares.ultimates m t }
 
+-- beside a refusal
 abbrev pub noDevelopment : Development
 noDevelopment = record { latest = zeros 20; g = zeros 20; shares = zeros 20; ultimates = zeros 20 }
 
+-- the refusal n
 abbrev pub noDeveloped : ℕ → Developed
 noDeveloped n = record { refusal = n; counts = noDevelopment; paid = noDevelopment }
 
@@ -29,6 +31,7 @@ developed m s =
     let n = firstNo (ofShares m s) in
     record { refusal = n; counts = ifAccepted n (development m (s .counts)) noDevelopment; paid = ifAccepted n (development m (s .paid)) noDevelopment }
 
+-- a no to question 13
 abbrev pub noIncurred : Incurred
 noIncurred = record { ok = false; ultimates = zeros 20 }
 

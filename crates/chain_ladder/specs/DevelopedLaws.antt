@@ -1,156 +1,28 @@
 -- What questions 9 to 11 and 13 say of a set, and the answers of `develop` and `incurred_ultimates` by them. Assumes nothing.
-use mathlib.Core.Path.{_≡_, refl, sym, _∙_, ap, ap₂}
-use mathlib.Core.Bool.{Bool, true, false, _&&_, cond, and-false}
+use mathlib.Core.Path.{_≡_, sym, _∙_, ap, ap₂}
+use mathlib.Core.Bool.{Bool, true, false, _&&_}
 use mathlib.Core.List.{List}
-use Prim.Native.Nat.{ℕ, zero, suc, _+_, _-_, _*_, _^_, _≤_, _<_}
+use Prim.Native.Nat.{ℕ, suc, _-_, _^_, _≤_, _<_}
 use native.Mathlib.Omega.{arith}
 use borrow.Author.Tests.{ne-eqb}
-use lib.IntN.{ℤ, pos, negsuc, natAbs}
+use lib.IntN.{ℤ, pos}
 use lib.Signed.{leZ, ltZ}
-use Rattle.integers.specs.Parts.{_⩽_, _⋖_, ints}
-use Rattle.integers.specs.Order.{lt-yes, le-yes, lt-no, leZ-true, leZ-false, ≤ℤ-trans, <ℤ-or-≥}
-use Rattle.model.specs.Lists.{at, listed, every}
-use Rattle.model.specs.ListsLaws.{getD-listed, listed-ext, every-at, every-all, every-no, every-ext, every-and, and-left, and-right}
-use Rattle.model.specs.Rounding.{S, r}
+use Rattle.integers.specs.Parts.{_⩽_, _⋖_}
+use Rattle.integers.specs.Order.{lt-yes, le-yes}
+use Rattle.model.specs.Lists.{at, every}
+use Rattle.model.specs.ListsLaws.{every-at, every-and, and-left, and-right}
 use Rattle.model.specs.Shares as Shares
-use Rattle.model.specs.Shares.{latest, A, B, g, gDown, gList, bList, ultimate}
-use Rattle.model.specs.Questions.{within, firstNo, ofShares, q9, q10, q11, q13}
-use Rattle.model.specs.QuestionsLaws.{none-left, yes-first, no-first, all-yes, within-yes, below-no}
+use Rattle.model.specs.Shares.{latest, A, B, g}
+use Rattle.model.specs.Questions.{firstNo, ofShares, q9, q10, q11, q13}
+use Rattle.model.specs.QuestionsLaws.{none-left, yes-first, no-first, all-yes}
 use Rattle.model.specs.declared.TriangleSet.{TriangleSet}
-use Rattle.chain_ladder.specs.SharesLaws.{NotNegative, Sound, B-pos, g-range, g-down}
-use Rattle.chain_ladder.specs.Sums.{Small, latests, aList, bSums}
-use Rattle.chain_ladder.specs.SumsLaws.{latest-small, A-small, B-small}
-use Rattle.chain_ladder.specs.Ladder.{bounded, boundedOf, Steps, InBounds, Ready, stepsDown, gOf, difference, grown, laddered}
-use Rattle.chain_ladder.specs.LadderLaws.{bounded-so}
-use Rattle.chain_ladder.specs.Valid.{Valid, least, few, small-up, counts-nonneg, counts-small, paid-nonneg, paid-small, incurred-small}
+use Rattle.chain_ladder.specs.SharesLaws.{Sound, B-pos}
+use Rattle.chain_ladder.specs.Sums.{Small, latests, bSums}
+use Rattle.chain_ladder.specs.Ladder.{bounded}
+use Rattle.chain_ladder.specs.LadderLaws.{above, asked-B, asked-rows, columns-above, bounded-first}
+use Rattle.chain_ladder.specs.Valid.{Valid, least, few, small-up, counts-nonneg, counts-small, paid-nonneg, paid-small}
 use Rattle.chain_ladder.specs.declared.Developed.{Developed}
 use Rattle.chain_ladder.specs.Developed.{noDeveloped, development, developed, noIncurred, incurredOf}
-
--- ---- the lists of a triangle's sums
-module _ (m : ℕ) (t : List ℤ) (few : m ≤ 20) where
-  pub at-latests : (k : ℕ) → k < m → at (latests m t) k ≡ latest m t (suc k)
-  unfolding latests
-  at-latests k h = getD-listed 20 m (λ k. latest m t (suc k)) (pos 0) k (pos 0) (omega arith) h
-
-  pub at-aList : (k : ℕ) → k < m - 1 → at (aList m t) k ≡ A m t (suc k)
-  unfolding aList
-  at-aList k h = getD-listed 20 (m - 1) (λ k. A m t (suc k)) (pos 0) k (pos 0) (omega arith) h
-
-  pub at-bSums : (k : ℕ) → k < m - 1 → at (bSums m t) k ≡ B m t (suc k)
-  unfolding bSums
-  at-bSums k h = getD-listed 20 (m - 1) (λ k. B m t (suc k)) (pos 0) k (pos 0) (omega arith) h
-
-  pub at-gList : (j : ℕ) → j < m → at (gList m t) j ≡ g m t j
-  unfolding gList
-  at-gList j h = getD-listed 20 m (g m t) (pos 0) j (pos 0) (omega arith) h
-
-  -- the cumulative shares from the lists are those of the triangle
-  steps-are : (n : ℕ) → n < m → stepsDown m (aList m t) (bSums m t) n ≡ gDown m t n
-  unfolding stepsDown gDown
-  steps-are zero h = refl
-  steps-are (suc n) h =
-      let e : suc (m - 1 - suc n) ≡ m - 1 - n = omega arith in
-      rw (steps-are n (omega arith), at-aList (m - 1 - suc n) (omega arith), at-bSums (m - 1 - suc n) (omega arith), e)
-
-  pub gOf-is : (j : ℕ) → j < m → gOf m (aList m t) (bSums m t) j ≡ g m t j
-  unfolding gOf g
-  gOf-is j h = steps-are (m - 1 - j) (omega arith)
-
-  -- the chain ladder from the lists is that of the triangle
-  difference-is : (k : ℕ) → k < m → difference (gList m t) k ≡ Shares.b m t k
-  unfolding difference Shares.b
-  difference-is zero h = at-gList 0 h
-  difference-is (suc k) h = rw (at-gList (suc k) h, at-gList k (omega arith))
-
-  grown-is : (k : ℕ) → k < m → grown m (latests m t) (gList m t) k ≡ ultimate m t (suc k)
-  unfolding grown ultimate
-  grown-is k h = rw (at-latests k h, at-gList (m - suc k) (omega arith))
-
-  pub ultimates-are : listed 20 m (grown m (latests m t) (gList m t)) (pos 0) ≡ Shares.ultimates m t
-  unfolding Shares.ultimates
-  ultimates-are = listed-ext 20 m _ _ (pos 0) grown-is
-
-  pub laddered-is : laddered m (latests m t) (gList m t) ≡ development m t
-  unfolding laddered development bList
-  laddered-is = ap₂ (λ (x y : List ℤ). record { latest = latests m t; g = gList m t; shares = x; ultimates = y }) (listed-ext 20 m _ _ (pos 0) difference-is) ultimates-are
-
--- ---- tests of lists
-above-zero : (z : ℤ) → leZ (pos 1) z ≡ ltZ (pos 0) z
-above-zero (pos n) = refl
-above-zero (negsuc n) = refl
-
--- "above zero" asked of a list's numbers
-asked-above : (n : ℕ) (xs : List ℤ) (f : ℕ → ℤ) → ((k : ℕ) → k < n → at xs k ≡ f k) → every n (λ k. leZ (pos 1) (at xs k)) ≡ every n (λ k. ltZ (pos 0) (f k))
-asked-above n xs f h = every-ext _ _ n (λ k l. above-zero (at xs k) ∙ ap (ltZ (pos 0)) (h k l))
-
-module _ (m : ℕ) (t : List ℤ) (few : m ≤ 20) where
-  pub asked-A : every (m - 1) (λ k. leZ (pos 1) (at (aList m t) k)) ≡ every (m - 1) (λ k. ltZ (pos 0) (A m t (suc k)))
-  asked-A = asked-above (m - 1) (aList m t) (λ k. A m t (suc k)) (at-aList m t few)
-
-  pub asked-B : every (m - 1) (λ k. leZ (pos 1) (at (bSums m t) k)) ≡ every (m - 1) (λ k. ltZ (pos 0) (B m t (suc k)))
-  asked-B = asked-above (m - 1) (bSums m t) (λ k. B m t (suc k)) (at-bSums m t few)
-
-  pub asked-rows : every m (λ k. leZ (pos 1) (at (latests m t) k)) ≡ every m (λ k. ltZ (pos 0) (latest m t (suc k)))
-  asked-rows = asked-above m (latests m t) (λ k. latest m t (suc k)) (at-latests m t few)
-
-  pub asked-signs : every m (λ k. leZ (pos 0) (at (latests m t) k)) ≡ every m (λ k. leZ (pos 0) (latest m t (suc k)))
-  asked-signs = every-ext _ _ m (λ k l. ap (leZ (pos 0)) (at-latests m t few k l))
-
--- the columns that a test passed
-pub columns-above : (m : ℕ) (t : List ℤ) → every (m - 1) (λ k. ltZ (pos 0) (B m t (suc k))) ≡ true → (j : ℕ) → 1 ≤ j → j < m → pos 0 ⋖ B m t j
-columns-above m t h j u l =
-    let e : suc (j - 1) ≡ j = omega arith in
-    lt-yes {a = pos 0} {b = B m t j} (rw e at (every-at (λ k. ltZ (pos 0) (B m t (suc k))) (m - 1) (j - 1) h (omega arith)))
-
--- ---- a triangle's cumulative shares
-S-most : S ⩽ pos (4 * 10 ^ 9)
-unfolding S
-S-most = omega (arith, ints)
-
-above : {x : ℤ} → pos (10 ^ 6) ⩽ x → pos 0 ⋖ x
-above h = omega (arith, ints)
-
-module _ (m : ℕ) (t : List ℤ) (some : 1 ≤ m) (small : Small m (10 ^ 10) t) where
-  pub bounded-is : boundedOf m (gOf m (aList m t) (bSums m t)) ≡ boundedOf m (g m t)
-  unfolding boundedOf
-  bounded-is =
-      rw (
-        every-ext (λ j. bounded (gOf m (aList m t) (bSums m t) j)) (λ j. bounded (g m t j)) m (λ j h. ap bounded (gOf-is m t (small .few) j h)),
-        listed-ext 20 m (gOf m (aList m t) (bSums m t)) (g m t) (pos 0) (gOf-is m t (small .few)),
-      )
-
-  pub steps : ((j : ℕ) → 1 ≤ j → j < m → pos 0 ⋖ B m t j) → Steps m (aList m t) (bSums m t)
-  steps columns = record {
-    some = some;
-    few = small .few;
-    over = λ k h. rw (at-aList m t (small .few) k h) (A-small m (10 ^ 10) t small (suc k) (omega arith));
-    under = λ k h. rw (at-bSums m t (small .few) k h) (columns (suc k) (omega arith) (omega arith), B-small m (10 ^ 10) t small (suc k) (omega arith));
-  }
-
-  module _ (ok : every m (λ j. bounded (g m t j)) ≡ true) where
-    pub bounded-yes : boundedOf m (g m t) ≡ record { ok = true; g = gList m t }
-    unfolding boundedOf gList
-    bounded-yes = rw ok
-
-    pub ready : Ready m (latests m t) (gList m t)
-    ready = record {
-      bounds = record { some = some; few = small .few; shares = λ k h. rw (at-gList m t (small .few) k h) (bounded-so _ (every-at (λ j. bounded (g m t j)) m k ok h)) };
-      sums = λ k h. rw (at-latests m t (small .few) k h) (latest-small m (10 ^ 10) t small (suc k) (omega arith) h);
-    }
-
-  -- of cells that are not negative each is in its bounds where g(0) is at least 10^6
-  pub bounded-first : NotNegative m t → ((j : ℕ) → 1 ≤ j → j < m → pos 0 ⋖ B m t j) → every m (λ j. bounded (g m t j)) ≡ leZ (pos (10 ^ 6)) (g m t 0)
-  bounded-first cells columns = by-test (leZ (pos (10 ^ 6)) (g m t 0)) refl
-    where
-      by-test : (x : Bool) → leZ (pos (10 ^ 6)) (g m t 0) ≡ x → every m (λ j. bounded (g m t j)) ≡ x
-      by-test true e = every-all (λ j. bounded (g m t j)) m (λ j h. within-yes _ _ (g m t j) (≤ℤ-trans low (g-down m t sound 0 j (omega arith) h)) (≤ℤ-trans (g-range m t sound j h .1) S-most))
-        where
-          low : pos (10 ^ 6) ⩽ g m t 0
-          low = le-yes e
-
-          sound : Sound m t
-          sound = record { cells = cells; columns = columns; first = above low }
-      by-test false e = every-no (λ j. bounded (g m t j)) m 0 some (rw e)
 
 -- ---- questions 9 to 11 of a set
 module _ (m : ℕ) (s : TriangleSet) where

@@ -1,5 +1,5 @@
 -- The chain ladder from the lists of a triangle's sums, and what its functions ask of these.
-use Prim.Native.Nat.{ℕ, zero, suc, _+_, _-_, _*_, _^_, _≤_, _<_}
+use Prim.Native.Nat.{ℕ, zero, suc, _-_, _*_, _^_, _≤_, _<_}
 use mathlib.Core.Bool.{Bool, cond}
 use mathlib.Core.List.{List}
 use lib.IntN.{ℤ, pos, natAbs, _-ℤ_, _*ℤ_}
@@ -17,6 +17,7 @@ use Rattle.chain_ladder.specs.declared.ladder.Share.the-variants.{Inside
 abbrev pub bounded : ℤ → Bool
 bounded z = within (pos (10 ^ 6)) (pos (4 * 10 ^ 9)) z
 
+-- the share, where it is
 unfoldable pub shareIn : ℤ → Share
 shareIn z = cond (bounded z) (Inside z) Outside
 
@@ -49,6 +50,7 @@ difference g (suc k) = at g (suc k) -ℤ at g k
 unfoldable pub grown : ℕ → List ℤ → List ℤ → ℕ → ℤ
 grown m latest g k = r (at latest k *ℤ S) (at g (m - suc k))
 
+-- the whole chain ladder, from these
 unfoldable pub laddered : ℕ → List ℤ → List ℤ → Development
 laddered m latest g =
     record { latest = latest; g = g; shares = listed 20 m (difference g) (pos 0); ultimates = listed 20 m (grown m latest g) (pos 0) }

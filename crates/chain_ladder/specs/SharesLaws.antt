@@ -1,5 +1,5 @@
 -- Laws of Shares, for a triangle t of size m whose cells are not negative (counts and paid). Assumes nothing.
-use mathlib.Core.Path.{_≡_, refl, sym, _∙_, ap, ap₂}
+use mathlib.Core.Path.{_≡_, _∙_, ap}
 use mathlib.Core.Logic.{_⊎_, inl, inr}
 use mathlib.Core.List.{List, [], _∷_}
 use Prim.Native.Nat.{ℕ, zero, suc, _+_, _-_, _≤_, _<_}
@@ -10,14 +10,14 @@ use Rattle.integers.specs.Parts.{_⩽_, _⋖_, ints}
 use Rattle.integers.specs.Solver.{ring, form}
 use Rattle.integers.specs.Linear.{lin, stmt, _&_}
 use Rattle.integers.specs.Monomials.{nlin, nstmt}
-use Rattle.integers.specs.Order.{≤ℤ-trans, <ℤ-≤ℤ, <ℤ-or-≥, +ℤ-mono, sub-nonneg, *ℤ-mono-l, *ℤ-mono-r, *ℤ-nonneg}
+use Rattle.integers.specs.Order.{≤ℤ-trans, <ℤ-≤ℤ, <ℤ-or-≥, sub-nonneg, *ℤ-mono-l, *ℤ-nonneg}
 use Rattle.integers.specs.Sums.{sum, sum-mono, sum-suc, sum-first, sum-cong, sum-telescope, sum-nonneg}
 use Rattle.model.specs.Lists.{at}
 use Rattle.model.specs.ListsLaws.{getD-listed}
 use Rattle.model.specs.Records.{cell}
 use Rattle.model.specs.Rounding.{S, r}
 use Rattle.model.specs.Shares as Shares
-use Rattle.model.specs.Shares.{C, latest, A, B, gDown, g, bList}
+use Rattle.model.specs.Shares.{C, latest, A, B, gDown, g, gList, bList, ultimate, ultimates}
 use Rattle.arithmetic.specs.RoundingLaws.{r-within}
 
 pub S-pos : pos 0 ⋖ S
@@ -64,6 +64,15 @@ module _ (m : ℕ) (t : List ℤ) (few : m ≤ 20) where
   pub at-bList : (j : ℕ) → j < m → at (bList m t) j ≡ Shares.b m t j
   unfolding bList
   at-bList j h = getD-listed 20 m (Shares.b m t) (pos 0) j (pos 0) (omega arith) h
+
+  pub at-gList : (j : ℕ) → j < m → at (gList m t) j ≡ g m t j
+  unfolding gList
+  at-gList j h = getD-listed 20 m (g m t) (pos 0) j (pos 0) (omega arith) h
+
+  -- year k + 1
+  pub at-ultimates : (k : ℕ) → k < m → at (ultimates m t) k ≡ ultimate m t (suc k)
+  unfolding ultimates
+  at-ultimates k h = getD-listed 20 m (λ k. ultimate m t (suc k)) (pos 0) k (pos 0) (omega arith) h
 
 -- ---- cells that are not negative
 abbrev pub NotNegative : ℕ → List ℤ → Type 0

@@ -23,12 +23,13 @@ unfoldable pub latests : ℕ → List ℤ → List ℤ
 latests m t = listed 20 m (λ k. Shares.latest m t (suc k)) (pos 0)
 
 -- A(j) at place j - 1
-unfoldable pub aList : ℕ → List ℤ → List ℤ
-aList m t = listed 20 (m - 1) (λ k. A m t (suc k)) (pos 0)
+unfoldable pub aSums : ℕ → List ℤ → List ℤ
+aSums m t = listed 20 (m - 1) (λ k. A m t (suc k)) (pos 0)
 
 -- B(j) at place j - 1
 unfoldable pub bSums : ℕ → List ℤ → List ℤ
 bSums m t = listed 20 (m - 1) (λ k. B m t (suc k)) (pos 0)
 
+-- all three
 unfoldable pub sumsOf : ℕ → List ℤ → TriangleSums
-sumsOf m t = record { latest = latests m t; a = aList m t; b = bSums m t }
+sumsOf m t = record { latest = latests m t; a = aSums m t; b = bSums m t }

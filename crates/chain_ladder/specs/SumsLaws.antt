@@ -1,18 +1,18 @@
 -- Laws of a triangle's sums: how a row's sum goes on, and how large sums get. Assumes nothing.
-use mathlib.Core.Path.{_≡_, _∙_, ap}
+use mathlib.Core.Path.{_≡_}
 use mathlib.Core.List.{List}
 use Prim.Native.Nat.{ℕ, suc, _+_, _-_, _*_, _≤_, _<_}
 use native.Mathlib.Nat.{mul-le-mul-right}
 use native.Mathlib.Omega.{arith}
-use lib.IntN.{ℤ, natAbs, _+ℤ_, +ℤ-idl}
-use Rattle.integers.specs.Sums.{sum, sum-zero, sum-suc, sum-natAbs}
+use lib.IntN.{ℤ, natAbs, _+ℤ_}
+use Rattle.integers.specs.Sums.{sum, sum-one, sum-suc, sum-natAbs}
 use Rattle.model.specs.Records.{cell}
 use Rattle.model.specs.Shares.{C, latest, A, B}
 use Rattle.chain_ladder.specs.Sums.{Small}
 
 pub C-first : (t : List ℤ) (i : ℕ) → C t i 0 ≡ cell t i 0
 unfolding C
-C-first t i = sum-suc 0 (cell t i) ∙ ap (λ (x : ℤ). x +ℤ cell t i 0) (sum-zero (cell t i)) ∙ +ℤ-idl (cell t i 0)
+C-first t i = sum-one (cell t i)
 
 pub C-next : (t : List ℤ) (i j : ℕ) → C t i (suc j) ≡ C t i j +ℤ cell t i (suc j)
 unfolding C

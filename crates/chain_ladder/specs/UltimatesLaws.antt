@@ -1,15 +1,14 @@
 -- Laws of ultimates: how large they get, and that they are no less than the latest sums. Assumes nothing.
-use mathlib.Core.Path.{_≡_, sym, _∙_, ap}
-use mathlib.Core.Bool.{Bool, true, _&&_}
-use mathlib.Core.List.{List, [], _∷_}
-use Prim.Native.Nat.{ℕ, suc, _+_, _-_, _*_, _^_, _≤_, _<_}
-use native.Mathlib.Nat.{mul-le-mul}
+use mathlib.Core.Path.{_≡_, sym}
+use mathlib.Core.Bool.{true}
+use mathlib.Core.List.{List}
+use Prim.Native.Nat.{ℕ, suc, _-_, _*_, _^_, _≤_}
 use native.Mathlib.Omega.{arith}
-use lib.IntN.{ℤ, pos, natAbs, _+ℤ_, _*ℤ_, +ℤ-idl}
+use lib.IntN.{ℤ, pos, natAbs, _*ℤ_}
 use lib.Signed.{<ℤ-≤ℤ-trans}
 use Rattle.integers.specs.Parts.{_⩽_, _⋖_}
 use Rattle.integers.specs.Order.{natAbs-*ℤ, <ℤ-≤ℤ, *ℤ-nonneg, *ℤ-mono-l}
-use Rattle.integers.specs.Sums.{sum, sum-zero, sum-suc}
+use Rattle.integers.specs.Sums.{sum-one}
 use Rattle.model.specs.Lists.{every}
 use Rattle.model.specs.ListsLaws.{every-at}
 use Rattle.model.specs.Rounding.{S, r}
@@ -41,7 +40,7 @@ module _ (m : ℕ) (t : List ℤ) where
   unfolding latest B
   latest-first h =
       let e : m - (m - 1) ≡ 1 = omega arith in
-      rw e (sym (sum-suc 0 (λ k. C t (suc k) (m - 1)) ∙ ap (λ (z : ℤ). z +ℤ C t 1 (m - 1)) (sum-zero (λ k. C t (suc k) (m - 1))) ∙ +ℤ-idl (C t 1 (m - 1))))
+      rw e (sym (sum-one (λ k. C t (suc k) (m - 1))))
 
 -- any triangle whose cumulative shares are in their bounds
 module _ (m : ℕ) (t : List ℤ) (small : Small m (10 ^ 10) t) (ok : every m (λ j. bounded (g m t j)) ≡ true) where
@@ -65,3 +64,6 @@ module _ (m : ℕ) (t : List ℤ) (sound : Sound m t) where
 
   pub first-latest : 2 ≤ m → pos 0 ⋖ latest m t 1
   first-latest h = rw (latest-first m t (omega arith)) (sound .columns (m - 1) (omega arith) (omega arith))
+
+  pub first-ultimate : 2 ≤ m → pos 0 ⋖ ultimate m t 1
+  first-ultimate h = ultimate-pos 1 (omega arith) (omega arith) (first-latest h)

@@ -10,13 +10,13 @@ ghost use Rattle.model.specs.Rounding.{r};
 ghost use Rattle.model.specs.Lists.{listed};
 ghost use Rattle.chain_ladder.specs.Ladder.{Steps, InBounds, Ready, shareIn, gOf, boundedOf, difference, grown, laddered};
 
-// A cumulative share, which is from 10^6 to 4 × 10^9, or outside these bounds.
+// A cumulative share where it is in bounds, from 10^6 to 4 × 10^9.
 enum Share {
     Inside(i64),
     Outside,
 }
 
-// Cumulative shares, g(j) at place j, where `ok` says that each is in its bounds; else zeros.
+// Cumulative shares, g(j) at place j, where `ok` says that each is in bounds; else zeros.
 pub struct Bounded {
     pub ok: bool,
     pub g: [i64; 20],
@@ -25,9 +25,10 @@ pub struct Bounded {
 // S.
 const SCALE: i64 = 1000000000;
 
-// The bounds of a cumulative share.
+// The least cumulative share that is in bounds.
 const LEAST: i64 = 1000000;
 
+// The largest one.
 const MOST: u64 = 4000000000;
 
 // The share of the delay before: r(g × a / b).
@@ -44,7 +45,7 @@ fn next_share(g: i64, a: i64, b: i64) -> Share
     Share::Inside(v)
 }
 
-// The cumulative shares of a triangle. It stops at the first that is outside its bounds.
+// The cumulative shares of a triangle, from g(m-1) down to the first that is out of bounds.
 pub fn cumulative_shares(s: TriangleSums, m: usize) -> Bounded
     requires { ⌜ Steps m (s .a) (s .b) ⌝ }
     ensures { λ r. ⌜ r ≡ boundedOf m (gOf m (s .a) (s .b)) ⌝ }

@@ -1,6 +1,6 @@
 // The chain ladder of a triangle, document 01's "Shares": sums, cumulative shares, shares and ultimates, and the questions 9 to 11 and 13.
 mod ladder;
-mod sums;
+pub mod sums;
 
 ghost use mathlib.Core.Path.{_≡_};
 ghost use mathlib.Core.Bool.{true};
@@ -72,7 +72,7 @@ fn refused(number: u64) -> Developed
     }
 }
 
-// Questions 9 to 11, and the chain ladder of counts and of paid. A share of either never rises above S, so that it is in its bounds where g(0) is.
+// Questions 9 to 11, and the chain ladder of counts and of paid. Neither's g rises above S or falls with the delay: all are in bounds where g(0) is.
 pub fn develop(set: model::TriangleSet, m: usize) -> Developed
     requires { ⌜ Valid m set ⌝ }
     ensures { λ r. ⌜ r ≡ developed m set ⌝ }

@@ -1,8 +1,8 @@
 // Sums of a triangle of m years: of its rows up to each delay, and of its columns.
 use crate::TriangleSums;
 ghost use mathlib.Core.Path.{_≡_};
-ghost use Prim.Native.Nat.{ℕ, suc, _+_, _-_, _*_, _^_, _≤_, _<_};
-ghost use lib.IntN.{ℤ, pos, natAbs};
+ghost use Prim.Native.Nat.{suc, _+_, _-_, _*_, _^_, _≤_, _<_};
+ghost use lib.IntN.{pos};
 ghost use Rattle.integers.specs.Sums.{sum};
 ghost use Rattle.model.specs.Lists.{listed};
 ghost use Rattle.model.specs.Records.{cell, triangle};

@@ -1,16 +1,14 @@
 -- Laws of Delays. Assumes nothing.
-use mathlib.Core.Path.{_≡_, refl, sym, _∙_, ap, ap₂}
+use mathlib.Core.Path.{_≡_, sym, _∙_, ap}
 use mathlib.Core.List.{List, [], _∷_}
-use mathlib.Core.Logic.{⊎-elim}
 use Prim.Native.Nat.{ℕ, zero, suc, _+_, _-_, _≤_, _<_}
-use native.Mathlib.Nat.{eq-or-lt-of-le, le-of-suc-le-suc}
 use native.Mathlib.Omega.{arith}
 use lib.IntN.{ℤ, pos, _+ℤ_, _*ℤ_, _-ℤ_}
-use lib.ListN.{length, getD, set, replicate, length-set, length-replicate, getD-replicate}
+use lib.ListN.{length, length-set, length-replicate, getD-replicate}
 use lib.Seq.{getD-set-same, getD-set-other}
 use Rattle.integers.specs.Parts.{_⩽_, _⋖_}
 use Rattle.integers.specs.Solver.{ring, form}
-use Rattle.integers.specs.Absolute.{∣_∣, Half, by-half, half-is}
+use Rattle.integers.specs.Absolute.{∣_∣, by-half, half-is}
 use Rattle.integers.specs.Sums.{sum, conv, sum-cong, sum-first}
 use Rattle.model.specs.Lists.{at}
 use Rattle.model.specs.Rounding.{S, r}

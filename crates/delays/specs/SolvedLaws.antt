@@ -1,13 +1,12 @@
 -- Laws of Solved: how large the numbers get that a delay is made of. Assumes nothing.
-use mathlib.Core.Path.{_≡_, refl, sym, _∙_, ap}
+use mathlib.Core.Path.{_≡_, _∙_}
 use mathlib.Core.List.{List, [], _∷_}
-use Prim.Native.Nat.{ℕ, suc, _+_, _-_, _*_, _^_, _≤_, _<_}
-use native.Mathlib.Nat.{mul-le-mul, mul-le-mul-left}
+use Prim.Native.Nat.{ℕ, suc, _-_, _*_, _^_, _≤_, _<_}
 use native.Mathlib.Omega.{arith}
-use lib.IntN.{ℤ, pos, natAbs, _+ℤ_, _*ℤ_, _-ℤ_}
-use Rattle.integers.specs.Parts.{_⩽_, _⋖_, ints}
+use lib.IntN.{ℤ, pos, natAbs, _+ℤ_, _*ℤ_}
+use Rattle.integers.specs.Parts.{_⩽_}
 use Rattle.integers.specs.Linear.{lin, stmt, _&_}
-use Rattle.integers.specs.Order.{≤ℤ-trans, ≤ℤ-of-≡, natAbs-mono, natAbs-*ℤ, natAbs--ℤ, sub-nonneg}
+use Rattle.integers.specs.Order.{≤ℤ-trans, ≤ℤ-of-≡, natAbs-mono}
 use Rattle.integers.specs.Sums.{sum, sum-cong, sum-suc, sum-first, sum-part, sum-nonneg, sum-weighted}
 use Rattle.model.specs.Lists.{at}
 use Rattle.model.specs.Rounding.{S}

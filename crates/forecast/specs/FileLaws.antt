@@ -2,9 +2,10 @@
 use mathlib.Core.Path.{_≡_, refl, sym, _∙_, ap, subst}
 use mathlib.Core.Bool.{Bool, true, false, cond}
 use mathlib.Core.List.{List, [], _∷_, _++_, append-assoc}
-use Prim.Native.Nat.{ℕ, suc, _≤_, _<_}
+use Prim.Native.Nat.{ℕ, zero, suc, _≤_, _<_}
+use lib.Dec.{leb}
 use native.Mathlib.Omega.{arith}
-use borrow.Author.Tests.{ne-eqb, le-leb, lt-leb}
+use borrow.Author.Tests.{ne-eqb, le-leb, lt-leb, leb-true, leb-false}
 use lib.IntN.{ℤ, pos}
 use lib.ListN.{length}
 use Rattle.model.specs.Records.{setOf, hasIncurred}
@@ -81,3 +82,25 @@ module _ (m : ℕ) (f : List ℕ) (method basis : ℕ) (before : List ℤ) where
           let accepted : setRefusal m s method ≡ 0 = sym (ap (λ (x : ForecastAnswer). x .refusal) a-is) ∙ z in
           let plain : out ≡ outputFrom m s (delaysOf m s) 0 1 before = out-is ∙ rw (accepted, dcl, estimated) in
           rw plain (demand-3 m s before (valid-set m f read) (shares-passed m s method accepted))
+
+  -- what the questions say of an accepted file
+  abbrev Passed : Type 0
+  Passed = (readRefusal m f ≡ 0) × (q6 (hasIncurred m f) method basis ≡ true) × (size m ≤ length before) × (setRefusal m s method ≡ 0)
+
+  pub passed : refusal ≡ 0 → Passed
+  passed z = by-read (readRefusal m f) refl
+    where
+      no : (n : ℕ) → refusal ≡ suc n → ⊥
+      no n e = omega arith
+
+      by-room-asked : readRefusal m f ≡ 0 → q6 (hasIncurred m f) method basis ≡ true → (t : Bool) → leb (size m) (length before) ≡ t → Passed
+      by-room-asked read six true e = let h = leb-true (size m) (length before) e in (read, six, h, sym (by-set read six h) ∙ z)
+      by-room-asked read six false e = absurd (no 6 (by-room read six (leb-false (size m) (length before) e)))
+
+      by-six : readRefusal m f ≡ 0 → (t : Bool) → q6 (hasIncurred m f) method basis ≡ t → Passed
+      by-six read true e = by-room-asked read e (leb (size m) (length before)) refl
+      by-six read false e = absurd (no 5 (by-method read e))
+
+      by-read : (n : ℕ) → readRefusal m f ≡ n → Passed
+      by-read zero e = by-six e (q6 (hasIncurred m f) method basis) refl
+      by-read (suc n) e = absurd (no n (by-file (λ y. omega arith) ∙ e))

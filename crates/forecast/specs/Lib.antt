@@ -5,3 +5,4 @@ pub mod Prepared
 pub mod PreparedLaws
 pub mod SetLaws
 pub mod FileLaws
+pub mod SmallEntries

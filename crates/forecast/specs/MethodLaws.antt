@@ -25,10 +25,11 @@ use Rattle.model.specs.Calls.{zeros}
 use Rattle.model.specs.declared.TriangleSet.{TriangleSet}
 use Rattle.chain_ladder.specs.declared.Incurred.{Incurred}
 use Rattle.chain_ladder.specs.Developed.{incurredOf}
-use Rattle.chain_ladder.specs.DevelopedLaws.{at-latests, bounded-first, incurred-yes}
+use Rattle.chain_ladder.specs.DevelopedLaws.{incurred-yes}
+use Rattle.chain_ladder.specs.LadderLaws.{at-latests, bounded-first}
 use Rattle.chain_ladder.specs.Sums.{latests}
 use Rattle.chain_ladder.specs.Ladder.{bounded}
-use Rattle.chain_ladder.specs.SharesLaws.{latest-nonneg}
+use Rattle.chain_ladder.specs.SharesLaws.{latest-nonneg, at-ultimates}
 use Rattle.chain_ladder.specs.UltimatesLaws.{ultimate-nonneg, ultimate-small, latest-ultimate, ultimate-first, latest-first}
 use Rattle.chain_ladder.specs.Valid.{Valid, few, least, paid-small, incurred-small}
 use Rattle.cells.specs.Bases.{Year, Sizes, baseFrom, leftFrom, baseAt, leftAt, AllSizes, basesOf}
@@ -62,10 +63,6 @@ module _ (m : ℕ) (s : TriangleSet) (method : ℕ) (asked : Asked m s method) w
   abbrev c : List ℤ
   c = latests m (s .paid)
 
-  at-ultimates : (t : List ℤ) (k : ℕ) → k < m → at (ultimates m t) k ≡ ultimate m t (suc k)
-  unfolding ultimates
-  at-ultimates t k h = getD-listed 20 m (λ k. ultimate m t (suc k)) (pos 0) k (pos 0) (omega (arith, m-few)) h
-
   paid-bounded : every m (λ j. bounded (g m (s .paid) j)) ≡ true
   paid-bounded =
       bounded-first m (s .paid) (let l = m-least in omega arith) (paid-small m s (asked .valid)) (asked .paid .cells) (asked .paid .columns) ∙ leZ-true (asked .least)
@@ -76,7 +73,7 @@ module _ (m : ℕ) (s : TriangleSet) (method : ℕ) (asked : Asked m s method) w
 
     year : (w : List ℤ) → Incurreds m s method w → Year method (at u k) (at w k) (at c k)
     year w i =
-        rw (at-ultimates (s .paid) k h, at-latests m (s .paid) m-few k h)
+        rw (at-ultimates m (s .paid) m-few k h, at-latests m (s .paid) m-few k h)
         (record {
           known = asked .known;
           high = (paid-high, i .small k h .1);
@@ -91,7 +88,7 @@ module _ (m : ℕ) (s : TriangleSet) (method : ℕ) (asked : Asked m s method) w
   sizes w i k h =
       let z : 0 < m = omega arith in
       record {
-        first = rw (at-ultimates (s .paid) 0 z) (paid-high 0 z);
+        first = rw (at-ultimates m (s .paid) m-few 0 z) (paid-high 0 z);
         divisor = i .first;
         divisor-high = i .small 0 z .1;
         year = year k h w i;
@@ -107,10 +104,10 @@ module _ (m : ℕ) (s : TriangleSet) (method : ℕ) (asked : Asked m s method) w
         z = omega arith
 
         by-method : (t : Bool) → eqb method 0 ≡ t → baseAt m method u c w k ≡ rowBase m s method (suc k)
-        by-method true e = let q : method ≡ 0 = eqb-true method 0 e in rw (q, at-ultimates (s .paid) k h)
+        by-method true e = let q : method ≡ 0 = eqb-true method 0 e in rw (q, at-ultimates m (s .paid) m-few k h)
         by-method false e =
             let n : method ≡ 0 → ⊥ = eqb-false method 0 e in
-            rw (at-ultimates (s .paid) 0 z, at-ultimates (s .paid) k h, i .are n 0 z, i .are n k h, at-latests m (s .paid) m-few k h)
+            rw (at-ultimates m (s .paid) m-few 0 z, at-ultimates m (s .paid) m-few k h, i .are n 0 z, i .are n k h, at-latests m (s .paid) m-few k h)
 
     pub left-is : (k : ℕ) → k < m → leftAt m method u c w k ≡ leftOver m s method (suc k)
     unfolding leftFrom leftOver U W R R*
@@ -120,7 +117,7 @@ module _ (m : ℕ) (s : TriangleSet) (method : ℕ) (asked : Asked m s method) w
         by-method true e = let q : method ≡ 0 = eqb-true method 0 e in rw q
         by-method false e =
             let n : method ≡ 0 → ⊥ = eqb-false method 0 e in
-            rw (at-ultimates (s .paid) k h, i .are n k h, at-latests m (s .paid) m-few k h)
+            rw (at-ultimates m (s .paid) m-few k h, i .are n k h, at-latests m (s .paid) m-few k h)
 
     pub bases-are : listed 20 m (baseAt m method u c w) (pos 0) ≡ rowBases m s method
     unfolding rowBases
@@ -142,7 +139,7 @@ module _ (m : ℕ) (s : TriangleSet) (method : ℕ) (asked : Asked m s method) w
     unfolding baseFrom
     passed-14 q =
         every-all (λ k. leb (natAbs (baseAt m method u c w k)) (2 * 10 ^ 14)) m
-        (λ k h. rw (q, at-ultimates (s .paid) k h) (le-leb (natAbs (ultimate m (s .paid) (suc k))) (2 * 10 ^ 14) (paid-high k h)))
+        (λ k h. rw (q, at-ultimates m (s .paid) m-few k h) (le-leb (natAbs (ultimate m (s .paid) (suc k))) (2 * 10 ^ 14) (paid-high k h)))
 
   -- ---- the two lists of incurred
   pub no-incurred : method ≡ 0 → Incurreds m s method (zeros 20)
@@ -155,9 +152,9 @@ module _ (m : ℕ) (s : TriangleSet) (method : ℕ) (asked : Asked m s method) w
   pub with-incurred : (method ≡ 0 → ⊥) → q13 m s ≡ true → Incurreds m s method (ultimates m (s .incurred))
   unfolding q13
   with-incurred n e = record {
-    small = λ k h. rw (at-ultimates (s .incurred) k h) (ultimate-nonneg m t (suc k) (c-low k h) (g-pos k h), ultimate-small m t (incurred-small m s (asked .valid) (asked .three n)) shares (suc k) (omega arith) (omega arith));
+    small = λ k h. rw (at-ultimates m (s .incurred) m-few k h) (ultimate-nonneg m t (suc k) (c-low k h) (g-pos k h), ultimate-small m t (incurred-small m s (asked .valid) (asked .three n)) shares (suc k) (omega arith) (omega arith));
     first = λ _. first-pos;
-    are = λ _ k h. at-ultimates (s .incurred) k h;
+    are = λ _ k h. at-ultimates m (s .incurred) m-few k h;
   }
     where
       t : List ℤ
@@ -185,7 +182,7 @@ module _ (m : ℕ) (s : TriangleSet) (method : ℕ) (asked : Asked m s method) w
           let z : 0 < m = omega (arith, m-least) in
           let l : m - 2 < m - 1 = omega (arith, m-least) in
           let d : suc (m - 2) ≡ m - 1 = omega (arith, m-least) in
-          rw (at-ultimates t 0 z, ultimate-first m t, latest-first m t (omega arith))
+          rw (at-ultimates m t m-few 0 z, ultimate-first m t, latest-first m t (omega arith))
           (lt-yes (and-right (ltZ (pos 0) (A m t (m - 1))) _ (rw d at (every-at (λ k. ltZ (pos 0) (A m t (suc k)) && ltZ (pos 0) (B m t (suc k))) (m - 1) (m - 2) sums l))))
 
 -- ---- the answer, question by question

@@ -32,12 +32,13 @@ use Rattle.chain_ladder.specs.Valid.{Valid, few, least, counts-small}
 use Rattle.delays.specs.DelaysLaws.{delay-past}
 use Rattle.forecast.specs.declared.set.Prepared.{Prepared}
 use Rattle.cells.specs.CellOf.{yearsEntries}
-use Rattle.cells.specs.Weights.{Delays}
+use Rattle.cells.specs.Weights.{Weights, Delays}
 use Rattle.cells.specs.WeightsLaws.{weights-are}
 use Rattle.forecast.specs.Method.{Asked, rowBases}
 use Rattle.forecast.specs.MethodLaws.{bases-small}
 use Rattle.cells.specs.Ready.{Ready, yearWeights}
-use Rattle.cells.specs.ReadyLaws.{g-at, latest-at}
+use Rattle.cells.specs.ReadyLaws as ReadyLaws
+use Rattle.cells.specs.ReadyLaws.{g-at, latest-at, shares-fit}
 use Rattle.cells.specs.YearsLaws.{output-is}
 use Rattle.forecast.specs.Prepared.{setRefusal, prepared, unprepared, setAnswer, setOutput}
 use Rattle.forecast.specs.PreparedLaws.{counts-sound, method-asked, refused, whole}
@@ -99,6 +100,19 @@ module _ (m : ℕ) (s : TriangleSet) (method basis : ℕ) (valid : Valid m s) (s
       output-is m (let l = least m s valid in omega arith) s (delaysOf m s) (rowBases m s method) weights method basis
       (λ i h l. (let e : suc (i - 1) ≡ i = omega arith in at-bases (i - 1) (omega arith) ∙ ap (rowBase m s method) e)) year-weights before
       ∙ rw accepted
+
+  -- the weights, delays and bases that the cells are made of
+  pub set-weights : (i : ℕ) → 1 ≤ i → i ≤ m → Weights (sList m s basis i)
+  set-weights i h l = rw (← year-weights i h l) (ReadyLaws.year-weights ready i h l basis)
+
+  pub set-shares : Weights (bList m (s .counts))
+  set-shares = shares-fit ready
+
+  pub set-delays : Delays (delaysOf m s)
+  set-delays = delays-small
+
+  pub set-bases : (i : ℕ) → 1 ≤ i → i ≤ m → natAbs (rowBase m s method i) ≤ 2 * 10 ^ 14
+  set-bases i h l = let e : suc (i - 1) ≡ i = omega arith in rw e at (bases-small m s method asked (answers .2) (i - 1) (omega arith))
 
 -- ---- as the code takes it: x is what was prepared
 module _ (m : ℕ) (s : TriangleSet) (method : ℕ) (x : Prepared) (x-is : x ≡ prepared m s method) where

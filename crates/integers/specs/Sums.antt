@@ -24,6 +24,10 @@ pub sum-suc : (n : ℕ) (f : ℕ → ℤ) → sum (suc n) f ≡ sum n f +ℤ f n
 unfolding sum
 sum-suc n f = refl
 
+pub sum-one : (f : ℕ → ℤ) → sum 1 f ≡ f 0
+unfolding sum
+sum-one f = +ℤ-idl (f 0)
+
 pub sum-cong : (n : ℕ) {f g : ℕ → ℤ} → ((k : ℕ) → k < n → f k ≡ g k) → sum n f ≡ sum n g
 unfolding sum
 sum-cong zero h = refl

@@ -8,10 +8,9 @@ use mir.Syntax.{w64}
 use mir.Val.{toZ, ofZ}
 use mir.Facts.{toZ-ofZ}
 use Rattle.integers.specs.Parts.{_⩽_, _⋖_}
-use Rattle.integers.specs.Order.{leZ-true, leZ-false}
+use Rattle.integers.specs.Order.{leZ-true, leZ-false, lt-yes, lt-no}
 use Rattle.model.specs.Lists.{at, every}
 use Rattle.model.specs.ListsLaws.{every-none, every-more, every-no}
-use Rattle.arithmetic.proofs.Words.{lt-yes, lt-no}
 use Rattle.chain_ladder.proofs.at_least.Statement.{statement}
 use Rattle.chain_ladder.proofs.at_least.Tie as tie
 

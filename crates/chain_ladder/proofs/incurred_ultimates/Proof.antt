@@ -1,22 +1,21 @@
 -- `incurred_ultimates` meets its contract: the four tests are question 13. Assumes nothing.
 use mathlib.Core.Path.{_≡_, refl, sym, _∙_, ap}
-use mathlib.Core.Bool.{Bool, true, false, _&&_, and-false}
+use mathlib.Core.Bool.{Bool, true, false, _&&_}
 use mathlib.Core.List.{List}
-use Prim.Native.Nat.{ℕ, suc, _-_}
+use Prim.Native.Nat.{ℕ}
 use native.Mathlib.Omega.{arith}
 use borrow.Author.Needs.{needs}
 use borrow.Author.Tests.{not-true, not-false}
-use lib.IntN.{ℤ, pos}
-use lib.Signed.{leZ, ltZ}
+use lib.IntN.{ℤ}
 use Rattle.model.specs.Lists.{every}
-use Rattle.model.specs.ListsLaws.{every-ext}
-use Rattle.model.specs.Shares.{latest, A, B, g}
+use Rattle.model.specs.Shares.{g}
 use Rattle.model.specs.Questions.{q13}
 use Rattle.model.specs.declared.TriangleSet.{TriangleSet}
-use Rattle.chain_ladder.specs.Sums.{sumsOf, latests, aList, bSums}
+use Rattle.chain_ladder.specs.Sums.{sumsOf}
 use Rattle.chain_ladder.specs.Ladder.{bounded}
-use Rattle.chain_ladder.specs.Valid.{Valid, few, incurred-small}
-use Rattle.chain_ladder.specs.DevelopedLaws.{A-above, B-above, latest-least, asked-A, asked-B, asked-signs, columns-above, some, q13-is, incurred-no, incurred-yes}
+use Rattle.chain_ladder.specs.LadderLaws.{asked-A, asked-B, asked-signs, columns-above}
+use Rattle.chain_ladder.specs.Valid.{few, incurred-small}
+use Rattle.chain_ladder.specs.DevelopedLaws.{A-above, B-above, latest-least, some, q13-is, incurred-no, incurred-yes}
 use Rattle.chain_ladder.proofs.OneTriangle.{Summed, steps-of, ok-is, ready-of, ultimates-of}
 use Rattle.chain_ladder.proofs.incurred_ultimates.Statement.{statement}
 use Rattle.chain_ladder.proofs.incurred_ultimates.Tie as tie

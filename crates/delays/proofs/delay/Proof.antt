@@ -1,7 +1,6 @@
 -- `delay` meets its contract. Assumes nothing.
-use mathlib.Core.Path.{_≡_, sym, _∙_, ap, ap₂}
-use mathlib.Core.List.{List}
-use Prim.Native.Nat.{ℕ, suc, _+_, _-_, _*_, _^_, _≤_, _<_}
+use mathlib.Core.Path.{_≡_, _∙_, ap, ap₂}
+use Prim.Native.Nat.{suc, _-_, _*_, _^_, _≤_}
 use native.Mathlib.Omega.{arith}
 use borrow.Author.Needs.{needs}
 use denote.Ref.{now}
@@ -15,7 +14,6 @@ use Rattle.model.specs.Lists.{at}
 use Rattle.model.specs.Rounding.{S}
 use Rattle.model.specs.Delays.{delayAfter}
 use Rattle.arithmetic.proofs.Words.{fits-abs}
-use Rattle.delays.specs.Solved.{Next}
 use Rattle.delays.specs.SolvedLaws.{past-small}
 use Rattle.delays.proofs.delay.Statement.{statement}
 use Rattle.delays.proofs.delay.Tie as tie

@@ -1,11 +1,11 @@
 -- `past` meets its contract: the products so far are summed. Assumes nothing.
-use mathlib.Core.Path.{_≡_, sym, _∙_, ap, ap₂}
+use mathlib.Core.Path.{_≡_, _∙_, ap}
 use mathlib.Core.List.{List}
-use Prim.Native.Nat.{ℕ, suc, _+_, _-_, _*_, _≤_, _<_}
+use Prim.Native.Nat.{ℕ, suc, _+_, _-_, _≤_, _<_}
 use native.Mathlib.Nat.{mul-le-mul}
 use native.Mathlib.Omega.{arith}
 use denote.Ref.{now}
-use lib.IntN.{ℤ, natAbs, _+ℤ_, _*ℤ_}
+use lib.IntN.{ℤ, _+ℤ_, _*ℤ_}
 use mir.Syntax.{w64}
 use mir.Val.{SFits, toZ, ofZ}
 use mir.Facts.{toZ-ofZ}
@@ -51,11 +51,17 @@ module _ (c : tie.After-out2 Inv-loop μ-loop) where
   inside : k < l
   inside = c .before .before .loop-test .taken
 
+  x-read : toZ w64 (ofZ w64 x) ≡ x
+  x-read = toZ-ofZ (record { sfits = c .before .out .given })
+
+  y-read : toZ w64 (ofZ w64 y) ≡ y
+  y-read = toZ-ofZ (record { sfits = c .out2 .given })
+
   factors : toZ w64 (ofZ w64 x) *ℤ toZ w64 (ofZ w64 y) ≡ term (now (start .args .b)) (now (start .args .p)) l k
   factors =
       let d : k + 1 ≡ suc k = omega arith in
       let e : l - 1 - k ≡ l - suc k = omega arith in
-      rw (toZ-ofZ (record { sfits = c .before .out .given }), toZ-ofZ (record { sfits = c .out2 .given }), d, e)
+      rw (x-read, y-read, d, e)
 
   term-fits : SFits w64 (term (now (start .args .b)) (now (start .args .p)) l k)
   term-fits =

@@ -1,20 +1,20 @@
 -- `cumulative_shares` meets its contract: the shares from delay j on are made, and are in their bounds. Assumes nothing.
-use mathlib.Core.Path.{_≡_, refl, sym, _∙_, ap, ap₂, subst}
-use mathlib.Core.Bool.{Bool, true, false, cond}
+use mathlib.Core.Path.{_≡_, sym, _∙_, ap}
+use mathlib.Core.Bool.{true}
 use mathlib.Core.List.{List, []}
 use mathlib.Core.Logic.{⊎-elim}
-use Prim.Native.Nat.{ℕ, zero, suc, _+_, _-_, _*_, _^_, _≤_, _<_}
+use Prim.Native.Nat.{ℕ, suc, _-_, _≤_, _<_}
 use native.Mathlib.Nat.{eq-or-lt-of-le}
 use native.Mathlib.Omega.{arith}
 use borrow.Author.Needs.{needs}
-use lib.IntN.{ℤ, pos, natAbs, _*ℤ_}
+use lib.IntN.{ℤ, pos}
 use lib.ListN.{replicate}
 use mir.Syntax.{w64}
 use mir.Val.{SFits, toZ, ofZ}
 use mir.Facts.{toZ-ofZ}
-use Rattle.model.specs.Lists.{at, listed, every}
+use Rattle.model.specs.Lists.{at}
 use Rattle.model.specs.ListsLaws.{every-all, every-no}
-use Rattle.model.specs.Rounding.{S, r}
+use Rattle.model.specs.Rounding.{S}
 use Rattle.arithmetic.proofs.Words.{fits-abs}
 use Rattle.chain_ladder.specs.Ladder.{bounded, shareIn, gOf, boundedOf}
 use Rattle.chain_ladder.specs.LadderLaws.{bounds-abs, bounded-so, inside-is, outside-is, gOf-last, gOf-step}

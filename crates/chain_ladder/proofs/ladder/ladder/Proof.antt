@@ -1,5 +1,4 @@
 -- `ladder` meets its contract. Assumes nothing.
-use mathlib.Core.Path.{_≡_}
 use borrow.Author.Needs.{needs}
 use Rattle.chain_ladder.specs.Ladder.{laddered}
 use Rattle.chain_ladder.proofs.ladder.ladder.Statement.{statement}

@@ -1,35 +1,26 @@
 -- `next_share` meets its contract: a share past the cap and one below the least share are outside the bounds. Assumes nothing.
-use mathlib.Core.Path.{_≡_, refl, sym, _∙_, ap}
-use mathlib.Core.Bool.{true, false, and-false, true≢false}
-use Prim.Native.Nat.{ℕ, _*_, _^_, _≤_, _<_}
+use mathlib.Core.Path.{_≡_, refl, sym, _∙_}
+use mathlib.Core.Bool.{false}
+use Prim.Native.Nat.{_*_, _^_, _≤_, _<_}
 use native.Mathlib.Omega.{arith}
 use borrow.Author.Needs.{needs}
-use borrow.Author.Tests.{ltb-true, ltb-false, le-leb, lt-leb}
-use lib.Dec.{leb}
 use lib.IntN.{ℤ, pos, negsuc, natAbs, _*ℤ_}
-use lib.Signed.{ltZ}
 use mir.Syntax.{w64}
-use mir.Val.{SFits, toZ, ofZ}
+use mir.Val.{toZ, ofZ}
 use mir.Facts.{toZ-ofZ}
+use Rattle.integers.specs.Parts.{_⩽_, _⋖_, ints}
+use Rattle.integers.specs.Order.{lt-yes, lt-no, natAbs-≤}
 use Rattle.model.specs.Rounding.{r}
+use Rattle.model.specs.QuestionsLaws.{within-yes, below-no, above-no}
 use Rattle.arithmetic.specs.Capped.{capped, within-is, over-is}
 use Rattle.arithmetic.proofs.Words.{fits-abs}
 use Rattle.chain_ladder.specs.Ladder.{bounded, shareIn}
 use Rattle.chain_ladder.proofs.ladder.next_share.Statement.{statement}
 use Rattle.chain_ladder.proofs.ladder.next_share.Tie as tie
 
--- the tests of the bounds
 too-far : (z : ℤ) → 4 * 10 ^ 9 < natAbs z → bounded z ≡ false
-too-far (pos n) h = rw (lt-leb n (4 * 10 ^ 9) h, and-false (leb (10 ^ 6) n))
+too-far (pos n) h = above-no (pos (10 ^ 6)) (pos (4 * 10 ^ 9)) (pos n) (omega (arith, ints))
 too-far (negsuc n) h = refl
-
-too-near : (z : ℤ) → ltZ z (pos (10 ^ 6)) ≡ true → bounded z ≡ false
-too-near (pos n) h = rw (lt-leb (10 ^ 6) n (ltb-true n (10 ^ 6) h))
-too-near (negsuc n) h = refl
-
-between : (z : ℤ) → ltZ z (pos (10 ^ 6)) ≡ false → natAbs z ≤ 4 * 10 ^ 9 → bounded z ≡ true
-between (pos n) h l = rw (le-leb (10 ^ 6) n (ltb-false n (10 ^ 6) h), le-leb n (4 * 10 ^ 9) l)
-between (negsuc n) h l = absurd (true≢false h)
 
 module _ (c : tie.After-mul-div-capped) where
   abbrev share : ℤ
@@ -63,11 +54,19 @@ returns c =
 
 returns-2 : tie.Need-returns-2
 unfolding shareIn
-returns-2 c = let b = c .before .before in rw (too-near (share (b .before .before)) (rw (read b) at (c .if1 .taken)))
+returns-2 c =
+    let b = c .before .before in
+    let z : ℤ = share (b .before .before) in
+    let h : z ⋖ pos (10 ^ 6) = lt-yes (rw (read b) at (c .if1 .taken)) in
+    rw (below-no (pos (10 ^ 6)) (pos (4 * 10 ^ 9)) z h)
 
 returns-3 : tie.Need-returns-3
 unfolding shareIn
-returns-3 c = let b = c .before .before in rw (read b, between (share (b .before .before)) (rw (read b) at (c .if1 .left)) (told b .1))
+returns-3 c =
+    let b = c .before .before in
+    let z : ℤ = share (b .before .before) in
+    let h : pos (10 ^ 6) ⩽ z = lt-no (rw (read b) at (c .if1 .left)) in
+    rw (read b, within-yes (pos (10 ^ 6)) (pos (4 * 10 ^ 9)) z h (natAbs-≤ .0 (told b .1) .0))
 
 pub next-share-spec : {M : Type 1} → statement M
 next-share-spec =

@@ -1,15 +1,14 @@
 -- `columns` meets its contract: the columns so far are summed. Assumes nothing.
-use mathlib.Core.Path.{_≡_, _∙_}
-use mathlib.Core.List.{List}
-use Prim.Native.Nat.{ℕ, suc, _+_, _-_, _*_, _^_, _≤_, _<_}
+use mathlib.Core.Path.{_≡_, _∙_, ap}
+use Prim.Native.Nat.{ℕ, suc, _+_, _-_, _≤_}
 use native.Mathlib.Omega.{arith}
-use lib.IntN.{ℤ, pos}
+use denote.Ref.{now}
+use lib.IntN.{pos}
 use mir.Facts.{toZ-ofZ}
 use Rattle.integers.specs.Sums.{sum}
 use Rattle.model.specs.Lists.{listed}
 use Rattle.model.specs.ListsLaws.{listed-none, listed-next}
 use Rattle.model.specs.Records.{cell}
-use Rattle.chain_ladder.specs.Sums.{Small}
 use Rattle.chain_ladder.proofs.sums.columns.Statement.{statement}
 use Rattle.chain_ladder.proofs.sums.columns.Tie as tie
 
@@ -57,7 +56,8 @@ loop-again c =
     let l = c .before .before .loop in
     let s = c .before .before .before in
     let e : s .args .m - 1 - l .k ≡ s .args .m - suc (l .k) = omega arith in
-    (omega arith, listed-next 20 (l .k) _ (pos 0) (omega (arith, s .pre .1 .few)) (l .inv .1) (toZ-ofZ (record { sfits = c .column .ok }) ∙ rw e at (c .column .ensures)))
+    let rows = ap (λ (n : ℕ). sum n (λ i. cell (now (s .args .c)) (suc i) (l .k + s .args .late))) e in
+    (omega arith, listed-next 20 (l .k) _ (pos 0) (omega (arith, s .pre .1 .few)) (l .inv .1) (toZ-ofZ (record { sfits = c .column .ok }) ∙ c .column .ensures ∙ rows))
 
 returns : tie.Need-returns Inv-loop μ-loop
 returns c = let e : c .before .loop .k ≡ c .before .before .args .m - 1 = omega arith in rw e at (c .before .loop .inv .1)

@@ -1,14 +1,12 @@
 -- `row_sums` meets its contract: the places so far have their sums. Assumes nothing.
-use mathlib.Core.Path.{_≡_, refl, sym, _∙_, ap}
-use Prim.Native.Nat.{ℕ, _+_, _-_, _≤_, _<_}
+use mathlib.Core.Path.{_≡_, _∙_}
+use Prim.Native.Nat.{_-_, _≤_}
 use native.Mathlib.Omega.{arith}
-use borrow.Author.Needs.{needs}
 use lib.IntN.{pos}
-use mir.Syntax.{w64}
-use mir.Val.{SFits}
 use mir.Facts.{toZ-ofZ}
 use Rattle.model.specs.Lists.{listed}
-use Rattle.model.specs.ListsLaws.{listed-none, listed-next, listed-whole}
+use Rattle.model.specs.ListsLaws.{listed-none, listed-next}
+use Rattle.triangles.specs.Stores.{listed-whole}
 use Rattle.model.specs.Records.{triangle}
 use Rattle.chain_ladder.specs.Sums.{rowSum}
 use Rattle.chain_ladder.proofs.sums.row_sums.Statement.{statement}

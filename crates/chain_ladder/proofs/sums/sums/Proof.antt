@@ -1,5 +1,5 @@
 -- `sums` meets its contract: a cell of the row sums is C(i,j). Assumes nothing.
-use mathlib.Core.Path.{_≡_, sym, _∙_, ap}
+use mathlib.Core.Path.{_≡_, _∙_, ap}
 use mathlib.Core.List.{List}
 use Prim.Native.Nat.{ℕ, suc, _+_, _-_, _*_, _^_, _≤_, _<_}
 use native.Mathlib.Omega.{arith}
@@ -13,7 +13,7 @@ use Rattle.model.specs.Records.{cell, triangle}
 use Rattle.model.specs.RecordsLaws.{cell-triangle}
 use Rattle.model.specs.Shares as Shares
 use Rattle.model.specs.Shares.{C, A, B}
-use Rattle.chain_ladder.specs.Sums.{Small, latests, aList, bSums, sumsOf}
+use Rattle.chain_ladder.specs.Sums.{Small, latests, aSums, bSums, sumsOf}
 use Rattle.chain_ladder.specs.SumsLaws.{C-small}
 use Rattle.chain_ladder.proofs.sums.sums.Statement.{statement}
 use Rattle.chain_ladder.proofs.sums.sums.Tie as tie
@@ -33,8 +33,8 @@ module _ (m : ℕ) (t : List ℤ) (small : Small m (10 ^ 10) t) where
   column-is : (k late d : ℕ) → k < m - 1 → late ≤ 1 → k + late ≡ d → sum (m - suc k) (λ i. cell (triangle m (C t)) (suc i) (k + late)) ≡ sum (m - suc k) (λ i. C t (suc i) d)
   column-is k late d h l e = sum-cong (m - suc k) (λ i u. at-cell (suc i) (k + late) (omega arith) (omega arith) ∙ ap (C t (suc i)) e)
 
-  a-is : listed 20 (m - 1) (λ k. sum (m - suc k) (λ i. cell (triangle m (C t)) (suc i) (k + 0))) (pos 0) ≡ aList m t
-  unfolding aList A
+  a-is : listed 20 (m - 1) (λ k. sum (m - suc k) (λ i. cell (triangle m (C t)) (suc i) (k + 0))) (pos 0) ≡ aSums m t
+  unfolding aSums A
   a-is = listed-ext 20 (m - 1) _ _ (pos 0) (λ k l. column-is k 0 (suc k - 1) l (omega arith) (omega arith))
 
   b-is : listed 20 (m - 1) (λ k. sum (m - suc k) (λ i. cell (triangle m (C t)) (suc i) (k + 1))) (pos 0) ≡ bSums m t

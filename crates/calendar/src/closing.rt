@@ -1,0 +1,51 @@
+// The whole answer of `closing` to its input.
+use crate::first_line::read_first_line;
+use crate::page::write_bytes;
+use crate::page::write_page;
+use crate::page::write_refusal;
+use crate::tally::tally_of;
+use model::FirstLine;
+ghost use mathlib.Core.Path.{_≡_};
+ghost use Prim.Native.Nat.{_≤_};
+ghost use lib.ListN.{length};
+ghost use Rattle.model.specs.Overlay.{overlay};
+ghost use Rattle.model.specs.Calls.{closingText, respondAnswer, respondOutput};
+ghost use Rattle.calendar.specs.Respond.{fileText};
+
+// Writes the answer to a file: the page of its forecast, or the refusal.
+fn answer_file(file: &[u8], m: usize, method: u64, basis: u64, text: &mut [u8]) -> usize
+    requires { ⌜ 4096 ≤ length (now text) ⌝ }
+    ensures { λ r. ⌜ (now (text .exit) ≡ overlay (now (text .entry)) 0 (fileText m (now (file .entry)) method basis)) × (r ≡ length (fileText m (now (file .entry)) method basis)) ⌝ }
+{
+    let mut entries = [0i64; 1560];
+    let answer = forecast::forecast(file, m, method, basis, &mut entries);
+    if answer.refusal != 0 {
+        return write_refusal(text, answer.refusal);
+    }
+    let t = tally_of(&entries, m);
+    write_page(text, m, t)
+}
+
+// Writes the answer to an input: its first line and the file behind it.
+fn answer(input: &[u8], text: &mut [u8]) -> usize
+    requires { ⌜ 4096 ≤ length (now text) ⌝ }
+    ensures { λ r. ⌜ (now (text .exit) ≡ overlay (now (text .entry)) 0 (closingText (now (input .entry)))) × (r ≡ length (closingText (now (input .entry)))) ⌝ }
+{
+    let FirstLine::Asked(m, method, basis, at) = read_first_line(input) else {
+        return write_refusal(text, 1);
+    };
+    answer_file(&input[at..], m as usize, method, basis, text)
+}
+
+// The text that `closing` prints for its whole standard input, written to the front of the output; hands back its length. Where the output is too short for
+// the text, it stays as it was and the answer is 0. No text is longer than 2,573 bytes.
+pub fn respond(input: &[u8], out: &mut [u8]) -> usize
+    ensures { λ r. ⌜ (r ≡ respondAnswer (now (input .entry)) (now (out .entry))) × (now (out .exit) ≡ respondOutput (now (input .entry)) (now (out .entry))) ⌝ }
+{
+    let mut text = [0u8; 4096];
+    let n = answer(input, &mut text);
+    if out.len() < n {
+        return 0;
+    }
+    write_bytes(out, &text[0..n])
+}

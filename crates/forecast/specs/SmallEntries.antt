@@ -1,0 +1,76 @@
+-- Every entry of an accepted forecast is at most 2 × 10^15, so that no calendar-year sum leaves 64 bits. Assumes nothing.
+use mathlib.Core.Path.{_≡_, refl, sym, _∙_, ap, subst}
+use mathlib.Core.Bool.{Bool, true, false, cond}
+use mathlib.Core.List.{List}
+use Prim.Native.Nat.{ℕ, suc, _+_, _-_, _*_, _/_, _%_, _^_, _≤_, _<_}
+use native.Mathlib.Nat.{mul-assoc, div-lt-iff-lt-mul}
+use native.Mathlib.Omega.{arith}
+use lib.Dec.{leb, eqb}
+use lib.IntN.{ℤ, pos, natAbs}
+use lib.ListN.{length, List·getD-append, drop}
+use Rattle.model.specs.Lists.{at}
+use Rattle.model.specs.ListsLaws.{length-tabulate, getD-tabulate}
+use Rattle.model.specs.Records.{setOf, hasIncurred}
+use Rattle.model.specs.Shares.{bList}
+use Rattle.model.specs.Delays.{delaysOf}
+use Rattle.model.specs.RowBases.{rowBase}
+use Rattle.model.specs.Cells.{size, yearOf, delayOf, rbns, ibnr, sList, entry, entries, outputFrom, rbnsFrom, ibnrFrom}
+use Rattle.model.specs.Questions.{q6}
+use Rattle.model.specs.declared.TriangleSet.{TriangleSet}
+use Rattle.model.specs.Calls.{forecastRefusal, forecastOutput}
+use Rattle.chain_ladder.specs.Accepted.{valid-set}
+use Rattle.chain_ladder.specs.Valid.{Valid, few, least}
+use Rattle.cells.specs.Weights.{Weights, Delays}
+use Rattle.cells.specs.SmallLaws.{rbns-small, ibnr-small}
+use Rattle.forecast.specs.Prepared.{setRefusal}
+use Rattle.forecast.specs.FileLaws.{passed}
+use Rattle.forecast.specs.SetLaws.{set-weights, set-shares, set-delays, set-bases}
+
+module _ (m : ℕ) (s : TriangleSet) (method basis : ℕ) (valid : Valid m s) (six : q6 (s .three) method basis ≡ true) (accepted : setRefusal m s method ≡ 0) where
+  known-or : (t : Bool) (z : ℤ) → natAbs z ≤ 2 * 10 ^ 15 → natAbs (cond t (pos 0) z) ≤ 2 * 10 ^ 15
+  known-or true z h = omega arith
+  known-or false z h = h
+
+  cell-small : (i j : ℕ) → 1 ≤ i → i ≤ m → (natAbs (rbns m s (delaysOf m s) method basis i j) ≤ 2 * 10 ^ 15) × (natAbs (ibnr m s (delaysOf m s) method i j) ≤ 2 * 10 ^ 15)
+  unfolding rbns ibnr
+  cell-small i j h l =
+      let v = set-bases m s method basis valid six accepted i h l in
+      let p = set-delays m s method basis valid six accepted in (
+        known-or (leb (i + j) m) _ (rbns-small m (few m s valid) (rowBase m s method i) v (sList m s basis i) (delaysOf m s) (set-weights m s method basis valid six accepted i h l) p i j),
+        known-or (leb (i + j) m) _ (ibnr-small m (few m s valid) (rowBase m s method i) v (bList m (s .counts)) (delaysOf m s) (set-shares m s method basis valid six accepted) p i j),
+      )
+
+  pub entry-small : (e : ℕ) → e < size m → natAbs (entry m s (delaysOf m s) method basis e) ≤ 2 * 10 ^ 15
+  unfolding entry
+  entry-small e l =
+      let k = least m s valid in
+      let w : 0 < 2 * m - 1 = omega arith in
+      let a : e / 2 < m * (2 * m - 1) = half e (m * (2 * m - 1)) (rw (mul-assoc 2 m (2 * m - 1)) at l) in
+      let d : e / 2 / (2 * m - 1) < m = div-lt-iff-lt-mul w .1 a in
+      let c = cell-small (yearOf m e) (delayOf m e) (omega arith) (omega arith) in
+      either (eqb (e % 2) 0) _ _ (c .0) (c .1)
+    where
+      half : (e n : ℕ) → e < 2 * n → e / 2 < n
+      half e n h = omega arith
+
+      either : (t : Bool) (x y : ℤ) → natAbs x ≤ 2 * 10 ^ 15 → natAbs y ≤ 2 * 10 ^ 15 → natAbs (cond t x y) ≤ 2 * 10 ^ 15
+      either true x y h k = h
+      either false x y h k = k
+
+  -- as they are written
+  pub output-small : (before : List ℤ) (e : ℕ) → e < size m → natAbs (at (outputFrom m s (delaysOf m s) method basis before) e) ≤ 2 * 10 ^ 15
+  unfolding outputFrom entries
+  output-small before e l =
+      rw (
+        List·getD-append (entries m s (delaysOf m s) method basis) (drop (size m) before) (pos 0) e (rw (length-tabulate (size m) (entry m s (delaysOf m s) method basis)) l),
+        getD-tabulate (size m) (entry m s (delaysOf m s) method basis) e (pos 0) l,
+      ) (entry-small e l)
+
+-- of an accepted file
+pub file-small : (m : ℕ) (f : List ℕ) (method basis : ℕ) (before : List ℤ) → forecastRefusal m f method basis (length before) ≡ 0
+    → (2 ≤ m) × (m ≤ 20) × (size m ≤ length before) × ((e : ℕ) → e < size m → natAbs (at (forecastOutput m f method basis before) e) ≤ 2 * 10 ^ 15)
+unfolding forecastOutput setOf
+file-small m f method basis before z =
+    let p = passed m f method basis before z in
+    let v = valid-set m f (p .0) in
+    (least m (setOf m f) v, few m (setOf m f) v, p .2, rw z (output-small m (setOf m f) method basis v (p .1) (p .3) before))

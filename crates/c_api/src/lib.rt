@@ -27,14 +27,13 @@ pub extern "C" fn pardesul_read_set(
     if refusal != 0 {
         return refusal;
     }
-    let set = answer.set;
-    let cells = set.counts;
+    let cells = answer.set.counts;
     *counts = cells;
-    let cells = set.paid;
+    let cells = answer.set.paid;
     *paid = cells;
-    let cells = set.incurred;
+    let cells = answer.set.incurred;
     *incurred = cells;
-    *three = set.three as u8;
+    *three = answer.set.three as u8;
     0
 }
 

@@ -16,7 +16,12 @@ impl fmt::Display for Difference {
 }
 
 /// Ok where the two are the same; `case` describes the case.
-pub fn same<T: PartialEq + fmt::Debug>(what: &str, found: T, wanted: T, case: impl Fn() -> String) -> Result<(), Difference> {
+pub fn same<T: PartialEq + fmt::Debug>(
+    what: &str,
+    found: T,
+    wanted: T,
+    case: impl Fn() -> String,
+) -> Result<(), Difference> {
     if found == wanted {
         return Ok(());
     }
@@ -27,10 +32,20 @@ pub fn same<T: PartialEq + fmt::Debug>(what: &str, found: T, wanted: T, case: im
 }
 
 /// Ok where the two lists are the same; names the first place that differs.
-pub fn same_list<T: PartialEq + fmt::Debug>(what: &str, found: &[T], wanted: &[T], case: impl Fn() -> String) -> Result<(), Difference> {
+pub fn same_list<T: PartialEq + fmt::Debug>(
+    what: &str,
+    found: &[T],
+    wanted: &[T],
+    case: impl Fn() -> String,
+) -> Result<(), Difference> {
     same(&format!("{what}, length"), found.len(), wanted.len(), &case)?;
     match (0..found.len()).find(|&at| found[at] != wanted[at]) {
-        Some(at) => same(&format!("{what}, place {at}"), &found[at], &wanted[at], &case),
+        Some(at) => same(
+            &format!("{what}, place {at}"),
+            &found[at],
+            &wanted[at],
+            &case,
+        ),
         None => Ok(()),
     }
 }

@@ -1,4 +1,5 @@
-//! The long comparison: `compare COUNT [FIRST]` runs every comparison on the seeds FIRST (or 0) to FIRST + COUNT - 1.
+//! The long comparison: `compare COUNT [FIRST]` runs every comparison on the seeds FIRST (or 0) to
+//! FIRST + COUNT - 1.
 
 use compare::{run, COMPARISONS};
 use std::env;
@@ -16,7 +17,10 @@ fn main() -> ExitCode {
     };
     for comparison in &COMPARISONS {
         match run(comparison, first..first.saturating_add(count)) {
-            Ok(accepted) => println!("{}: {count} the same, {accepted} of them accepted", comparison.name),
+            Ok(accepted) => println!(
+                "{}: {count} the same, {accepted} of them accepted",
+                comparison.name
+            ),
             Err(difference) => {
                 println!("{}: {difference}", comparison.name);
                 return ExitCode::FAILURE;

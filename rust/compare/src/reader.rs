@@ -21,14 +21,17 @@ pub fn of_damaged(seed: u64) -> Result<bool, Difference> {
         match random.below(16) {
             0 => file.insert(at, any),
             1 => file.truncate(at),
-            _ if at < file.len() => file[at] = random.pick(&[0, 1, 2, 3, 20, 21, 127, 128, 255, any]),
+            _ if at < file.len() => {
+                file[at] = random.pick(&[0, 1, 2, 3, 20, 21, 127, 128, 255, any])
+            }
             _ => {}
         }
     }
     compare(seed, set.m as u64, &file)
 }
 
-/// The places of the three triangles in one memory, with four words before, between and behind them.
+/// The places of the three triangles in one memory, with four words before, between and behind
+/// them.
 const PLACES: [usize; 3] = [4, 408, 812];
 const MEMORY: usize = 1216;
 
@@ -55,14 +58,22 @@ fn compare(seed: u64, m: u64, file: &[u8]) -> Result<bool, Difference> {
     same_list("reader, memory", &memory, &wanted_memory, text)?;
 
     let found = TriangleSet::read(file, m as usize).map_err(|refusal| refusal.number());
-    same("TriangleSet::read", found, wanted.as_ref().map(natural).map_err(|refusal| *refusal), text)?;
+    same(
+        "TriangleSet::read",
+        found,
+        wanted.as_ref().map(natural).map_err(|refusal| *refusal),
+        text,
+    )?;
     Ok(refusal == 0)
 }
 
 /// The memory with the set's triangles at their places.
 fn with(before: &[i64], set: &Set) -> Vec<i64> {
     let mut memory = before.to_vec();
-    for (at, list) in PLACES.into_iter().zip([&set.counts, &set.paid, &set.incurred]) {
+    for (at, list) in PLACES
+        .into_iter()
+        .zip([&set.counts, &set.paid, &set.incurred])
+    {
         memory[at..at + 400].copy_from_slice(list);
     }
     memory

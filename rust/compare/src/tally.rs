@@ -3,7 +3,8 @@
 use crate::difference::{same, Difference};
 use reference::generate::Random;
 
-/// Cells of every size added to a tally one after the other, some in years outside 1 to 38 and some past 64 bits.
+/// Cells of every size added to a tally one after the other, some in years outside 1 to 38 and some
+/// past 64 bits.
 pub fn of_case(seed: u64) -> Result<bool, Difference> {
     let mut random = Random::new(seed);
     let mut wanted = reference::Tally::zero();
@@ -16,7 +17,12 @@ pub fn of_case(seed: u64) -> Result<bool, Difference> {
         wanted = wanted.add(year, rbns, ibnr);
         found = found.add(year as u64, rbns, ibnr);
         let text = || format!("seed {seed}, cells {cells:?}");
-        same("tally", (found.rbns, found.ibnr), (wanted.rbns, wanted.ibnr), text)?;
+        same(
+            "tally",
+            (found.rbns, found.ibnr),
+            (wanted.rbns, wanted.ibnr),
+            text,
+        )?;
     }
     Ok(true)
 }

@@ -9,24 +9,46 @@ use reference::{read_set, write_set};
 /// Bytes before and behind the output.
 const AROUND: usize = 16;
 
-/// The set of the seed: the refusal, the records in any order, the bytes past them, and what reads back.
+/// The set of the seed: the refusal, the records in any order, the bytes past them, and what reads
+/// back.
 pub fn of_case(seed: u64) -> Result<bool, Difference> {
     let case = writer_case(seed);
     let text = || arguments(seed, &case);
     let m = case.m as usize;
     let mut random = Random::new(seed);
-    let before: Vec<u8> = (0..case.out_len + 2 * AROUND).map(|_| random.number() as u8).collect();
+    let before: Vec<u8> = (0..case.out_len + 2 * AROUND)
+        .map(|_| random.number() as u8)
+        .collect();
     let lent = AROUND..AROUND + case.out_len;
 
     let mut memory = before.clone();
-    let refusal = calls::write_set(m, case.incurred_there, &case.counts, &case.paid, &case.incurred, &mut memory[lent.clone()]);
+    let refusal = calls::write_set(
+        m,
+        case.incurred_there,
+        &case.counts,
+        &case.paid,
+        &case.incurred,
+        &mut memory[lent.clone()],
+    );
     let mut wanted = before;
-    let answer = write_set(case.m, case.incurred_there, &case.counts, &case.paid, &case.incurred, &mut wanted[lent]);
+    let answer = write_set(
+        case.m,
+        case.incurred_there,
+        &case.counts,
+        &case.paid,
+        &case.incurred,
+        &mut wanted[lent],
+    );
     same("writer, refusal", refusal, answer.err().unwrap_or(0), text)?;
     if refusal == 0 {
         let written = AROUND..AROUND + file_length(m, case.incurred_there);
         let read = read_set(&memory[written.clone()], case.m);
-        same("writer, what is written read back", &read, &read_set(&wanted[written.clone()], case.m), text)?;
+        same(
+            "writer, what is written read back",
+            &read,
+            &read_set(&wanted[written.clone()], case.m),
+            text,
+        )?;
         sort_records(&mut memory[written.clone()]);
         sort_records(&mut wanted[written]);
     }
@@ -34,7 +56,12 @@ pub fn of_case(seed: u64) -> Result<bool, Difference> {
 
     let file = natural(&case).to_file().map_err(|refusal| refusal.number());
     let accepted = if refusal == 7 { 0 } else { refusal };
-    same("TriangleSet::to_file", file.err().unwrap_or(0), accepted, text)?;
+    same(
+        "TriangleSet::to_file",
+        file.err().unwrap_or(0),
+        accepted,
+        text,
+    )?;
     Ok(refusal == 0)
 }
 

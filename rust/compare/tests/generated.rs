@@ -6,7 +6,10 @@ const CASES: u64 = 4_000;
 
 /// The comparison of this name, with neither too few accepted cases nor too few refused ones.
 fn the_same(name: &str, accepted: std::ops::Range<u64>) {
-    let comparison = COMPARISONS.iter().find(|comparison| comparison.name == name).unwrap();
+    let comparison = COMPARISONS
+        .iter()
+        .find(|comparison| comparison.name == name)
+        .unwrap();
     match run(comparison, 0..CASES) {
         Ok(count) => assert!(accepted.contains(&count), "{count} accepted"),
         Err(difference) => panic!("{difference}"),

@@ -20,10 +20,14 @@ pub struct Tally {
 impl Tally {
     /// The tally of no cells.
     pub fn zero() -> Tally {
-        Tally { rbns: [0; 38], ibnr: [0; 38] }
+        Tally {
+            rbns: [0; 38],
+            ibnr: [0; 38],
+        }
     }
 
-    /// The tally with a cell added; the same tally for a year outside 1 to 38, or where a sum leaves 64 bits.
+    /// The tally with a cell added; the same tally for a year outside 1 to 38, or where a sum
+    /// leaves 64 bits.
     pub fn add(mut self, year: u64, rbns: i64, ibnr: i64) -> Tally {
         calls::tally_add(&mut self.rbns, &mut self.ibnr, year, rbns, ibnr);
         self

@@ -6,7 +6,8 @@ use std::fmt;
 /// The most accident years, and the most delays.
 const MOST: usize = 20;
 
-/// A run-off triangle of at most 20 accident years: a value for each accident year from 1 on and each delay from 0 on.
+/// A run-off triangle of at most 20 accident years: a value for each accident year from 1 on and
+/// each delay from 0 on.
 ///
 /// ```
 /// use pardesul::Triangle;
@@ -70,7 +71,10 @@ impl Triangle {
 
 /// "cell (i,j) at 20 × (i-1) + j"
 fn place(year: usize, delay: usize) -> usize {
-    assert!((1..=MOST).contains(&year) && delay < MOST, "accident year {year}, delay {delay}");
+    assert!(
+        (1..=MOST).contains(&year) && delay < MOST,
+        "accident year {year}, delay {delay}"
+    );
     MOST * (year - 1) + delay
 }
 
@@ -90,11 +94,19 @@ pub struct TriangleSet {
 }
 
 impl TriangleSet {
-    /// The set that a file holds, its records in any order; zeros stand outside the cells. Refuses with 1 to 5.
+    /// The set that a file holds, its records in any order; zeros stand outside the cells. Refuses
+    /// with 1 to 5.
     pub fn read(file: &[u8], m: usize) -> Result<TriangleSet, Refusal> {
         let (mut counts, mut paid, mut incurred) = ([0; 400], [0; 400], [0; 400]);
         let mut three = 0;
-        Refusal::of(calls::read_set(file, m, &mut three, &mut counts, &mut paid, &mut incurred))?;
+        Refusal::of(calls::read_set(
+            file,
+            m,
+            &mut three,
+            &mut counts,
+            &mut paid,
+            &mut incurred,
+        ))?;
         Ok(TriangleSet {
             m,
             counts: Triangle::new(counts),
@@ -103,16 +115,27 @@ impl TriangleSet {
         })
     }
 
-    /// The length of the set's file in bytes.
+    /// The length of the set's file in bytes; 0 where m is not 2 to 20.
     pub fn file_len(&self) -> usize {
-        let kinds = if self.incurred.is_some() { 3 } else { 2 };
-        16 * kinds * (self.m * (self.m + 1) / 2)
+        match (self.m, &self.incurred) {
+            (2..=20, Some(_)) => 24 * self.m * (self.m + 1),
+            (2..=20, None) => 16 * self.m * (self.m + 1),
+            _ => 0,
+        }
     }
 
-    /// Writes the set's file to the front of `out`, where the bytes past it stay. Values outside the cells are not looked at. Refuses with 1, 5 and 7.
+    /// Writes the set's file to the front of `out`, where the bytes past it stay. Values outside
+    /// the cells are not looked at. Refuses with 1, 5 and 7.
     pub fn write(&self, out: &mut [u8]) -> Result<(), Refusal> {
         let incurred = self.incurred.as_ref().map_or(&[0; 400], Triangle::values);
-        Refusal::of(calls::write_set(self.m, self.incurred.is_some(), self.counts.values(), self.paid.values(), incurred, out))
+        Refusal::of(calls::write_set(
+            self.m,
+            self.incurred.is_some(),
+            self.counts.values(),
+            self.paid.values(),
+            incurred,
+            out,
+        ))
     }
 
     /// The set's file. Refuses with 1 and 5.
@@ -120,13 +143,13 @@ impl TriangleSet {
     /// ```
     /// use pardesul::{Triangle, TriangleSet};
     ///
-    /// let (counts, paid) = (Triangle::from_rows(&[&[80, 20], &[90]]), Triangle::from_rows(&[&[600, -1], &[660]]));
+    /// let counts = Triangle::from_rows(&[&[80, 20], &[90]]);
+    /// let paid = Triangle::from_rows(&[&[600, -1], &[660]]);
     /// let set = TriangleSet { m: 2, counts, paid, incurred: None };
     /// assert_eq!(set.to_file().unwrap_err().number(), 5);
     /// ```
     pub fn to_file(&self) -> Result<Vec<u8>, Refusal> {
-        let len = if self.m <= MOST { self.file_len() } else { 0 };
-        let mut out = vec![0; len];
+        let mut out = vec![0; self.file_len()];
         self.write(&mut out)?;
         Ok(out)
     }

@@ -25,9 +25,9 @@ cast-three c = search needs
 
 returns-2 : tie.Need-returns-2
 returns-2 c =
-    let o = c .before .before .before .before .before .before .read-set in
+    let o = c .before .before .before .before .before .read-set in
     let e = o .ensures in (
-      sym (c .before .before .before .before .before .if1 .left) ∙ ap (λ (a : ReadAnswer). a .refusal) e,
+      sym (c .before .before .before .before .if1 .left) ∙ ap (λ (a : ReadAnswer). a .refusal) e,
       (
         as-number (o .result .set .three) ∙ ap (λ (a : ReadAnswer). cond (a .set .three) 1 0) e,
         (ap (λ (a : ReadAnswer). a .set .counts) e, (ap (λ (a : ReadAnswer). a .set .paid) e, ap (λ (a : ReadAnswer). a .set .incurred) e)),

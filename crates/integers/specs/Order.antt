@@ -9,7 +9,7 @@ use native.Mathlib.Nat.{mul-le-mul-right, mul-lt-mul-of-pos-right, mul-zero, le-
 use native.Mathlib.Omega.{arith}
 use lib.Dec.{T, leb·zero}
 use lib.IntN.{ℤ, pos, negsuc, negℤ, natAbs, _+ℤ_, _*ℤ_, _-ℤ_, *ℤ-comm, zero-*ℤ}
-use lib.Signed.{_≤ℤ_, _<ℤ_, ltZ, leZ-yes, ltZ-yes, ltZ-no, clashℤ}
+use lib.Signed.{_≤ℤ_, _<ℤ_, leZ, ltZ, leZ-yes, ltZ-yes, ltZ-no, clashℤ}
 use Rattle.integers.specs.Parts.{up, dn, ints, add-parts, diff-parts, mul-parts, up-neg, dn-neg, abs-parts, le-parts, lt-parts}
 use Rattle.integers.specs.Linear.{lin, stmt, _&_}
 
@@ -45,6 +45,36 @@ pub ≤ℤ-total : (a b : ℤ) → (a ≤ℤ b) ⊎ (b ≤ℤ a)
     go : (a <ℤ b) ⊎ (b ≤ℤ a) → (a ≤ℤ b) ⊎ (b ≤ℤ a)
     go (inl h) = inl (<ℤ-≤ℤ h)
     go (inr h) = inr h
+
+-- ---- the tests
+so-true : (t : Bool) → T t → t ≡ true
+so-true true h = refl
+so-true false h = absurd h
+
+pub leZ-true : {a b : ℤ} → a ≤ℤ b → leZ a b ≡ true
+leZ-true {a} {b} h = so-true (leZ a b) (h .le)
+
+pub ltZ-true : {a b : ℤ} → a <ℤ b → ltZ a b ≡ true
+ltZ-true {a} {b} h = so-true (ltZ a b) (h .lt)
+
+not-so : (t : Bool) → (T t → ⊥) → t ≡ false
+not-so true h = absurd (h tt)
+not-so false h = refl
+
+pub leZ-false : {a b : ℤ} → b <ℤ a → leZ a b ≡ false
+leZ-false {a} {b} h = not-so (leZ a b) (λ t. clashℤ h (leZ-yes t))
+
+pub ltZ-false : {a b : ℤ} → b ≤ℤ a → ltZ a b ≡ false
+ltZ-false {a} {b} h = not-so (ltZ a b) (λ t. clashℤ (ltZ-yes t) h)
+
+pub le-yes : {a b : ℤ} → leZ a b ≡ true → a ≤ℤ b
+le-yes e = leZ-yes (subst T (sym e) tt)
+
+pub lt-yes : {a b : ℤ} → ltZ a b ≡ true → a <ℤ b
+lt-yes e = ltZ-yes (subst T (sym e) tt)
+
+pub lt-no : {a b : ℤ} → ltZ a b ≡ false → b ≤ℤ a
+lt-no e = ltZ-no (subst (λ (t : Bool). T (not t)) (sym e) tt)
 
 -- a < b is a + 1 ≤ b
 pub <ℤ-suc : {a b : ℤ} → a <ℤ b ↔ (a +ℤ pos 1) ≤ℤ b
@@ -160,10 +190,11 @@ natAbs-*ℤ (negsuc a) (negsuc b) = refl
 pub natAbs-+ℤ : (x y : ℤ) → natAbs (x +ℤ y) ≤ natAbs x + natAbs y
 natAbs-+ℤ x y = lin (x ∷ y ∷ []) (le-refl (natAbs x) & le-refl (natAbs y)) (search stmt) (omega arith)
 
-pub natAbs-nonneg-+ℤ : {x y : ℤ} → pos 0 ≤ℤ x → pos 0 ≤ℤ y → natAbs (x +ℤ y) ≡ natAbs x + natAbs y
-natAbs-nonneg-+ℤ {x = pos a} {y = pos b} p q = refl
-natAbs-nonneg-+ℤ {x = pos a} {y = negsuc b} p q = absurd (q .le)
-natAbs-nonneg-+ℤ {x = negsuc a} {y = y} p q = absurd (p .le)
+-- of two numbers that are not negative
+pub natAbs-plus : {x y : ℤ} → pos 0 ≤ℤ x → pos 0 ≤ℤ y → natAbs (x +ℤ y) ≡ natAbs x + natAbs y
+natAbs-plus {x = pos m} {y = pos n} p q = refl
+natAbs-plus {x = pos m} {y = negsuc n} p q = absurd (q .le)
+natAbs-plus {x = negsuc m} {y = y} p q = absurd (p .le)
 
 pub natAbs--ℤ : (x y : ℤ) → natAbs (x -ℤ y) ≤ natAbs x + natAbs y
 natAbs--ℤ x y = lin (x ∷ y ∷ []) (le-refl (natAbs x) & le-refl (natAbs y)) (search stmt) (omega arith)

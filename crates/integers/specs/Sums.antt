@@ -3,14 +3,14 @@
 use mathlib.Core.Path.{_≡_, refl, sym, _∙_, ap, ap₂}
 use mathlib.Core.List.{[], _∷_}
 use Prim.Native.Nat.{ℕ, zero, suc, _+_, _-_, _*_, _≤_, _<_}
-use native.Mathlib.Nat.{add-zero, add-suc, mul-add}
+use native.Mathlib.Nat.{add-zero, add-suc, mul-add, mul-comm, mul-le-mul-left}
 use native.Mathlib.Omega.{arith}
 use lib.IntN.{ℤ, pos, negℤ, natAbs, _+ℤ_, _*ℤ_, _-ℤ_, *ℤ-comm, *ℤ-zero, zero-*ℤ, +ℤ-idl, +ℤ-idr, +ℤ-comm, negℤ-+ℤ}
 use lib.Signed.{_≤ℤ_, ≤ℤ-refl}
 use Rattle.integers.specs.Ring.{*ℤ-assoc, *ℤ-+ℤ, +ℤ-*ℤ}
 use Rattle.integers.specs.Solver.{ring, form}
-use Rattle.integers.specs.Linear.{lin, lin₀, stmt}
-use Rattle.integers.specs.Order.{+ℤ-mono, natAbs-+ℤ, natAbs-nonneg-+ℤ}
+use Rattle.integers.specs.Linear.{lin₀, stmt}
+use Rattle.integers.specs.Order.{+ℤ-mono, ≤-by, natAbs-+ℤ, natAbs-*ℤ, natAbs-plus}
 
 unfoldable pub sum : ℕ → (ℕ → ℤ) → ℤ
 sum zero f = pos 0
@@ -113,6 +113,13 @@ unfolding sum
 sum-nonneg zero f h = ≤ℤ-refl (pos 0)
 sum-nonneg (suc n) f h = +ℤ-mono (sum-nonneg n f (λ k l. h k (omega arith))) (h n (omega arith))
 
+-- of weights that are not negative, the first of them
+pub sum-part : (n m : ℕ) (f : ℕ → ℤ) → n ≤ m → ((k : ℕ) → k < m → pos 0 ≤ℤ f k) → sum n f ≤ℤ sum m f
+sum-part n m f l h =
+    let e : m ≡ n + (m - n) = omega arith in
+    ≤-by (sum-nonneg (m - n) (λ k. f (n + k)) (λ k u. h (n + k) (omega arith)))
+    (sym (ap (λ (i : ℕ). sum i f) e ∙ sum-split n (m - n) f) ∙ sym (+ℤ-idr (sum m f)))
+
 -- where the terms from e on are 0
 pub sum-ends : (e n : ℕ) (f : ℕ → ℤ) → e ≤ n → ((k : ℕ) → e ≤ k → k < n → f k ≡ pos 0) → sum n f ≡ sum e f
 sum-ends e n f h z =
@@ -120,21 +127,20 @@ sum-ends e n f h z =
     ap (λ (i : ℕ). sum i f) d ∙ sum-split e (n - e) f
     ∙ ap (λ (x : ℤ). sum e f +ℤ x) (sum-nothing (n - e) (λ k l. z (e + k) (omega arith) (omega arith))) ∙ +ℤ-idr (sum e f)
 
--- a longer sum of terms that are not negative
-pub sum-longer : (m n : ℕ) (f : ℕ → ℤ) → m ≤ n → ((k : ℕ) → k < n → pos 0 ≤ℤ f k) → sum m f ≤ℤ sum n f
-sum-longer m n f h p =
-    let d : n ≡ m + (n - m) = omega arith in
-    rw (d, sum-split m (n - m) f)
-    (lin (sum m f ∷ sum (n - m) (λ k. f (m + k)) ∷ []) (sum-nonneg (n - m) (λ k. f (m + k)) (λ k l. p (m + k) (omega arith))) (search stmt depth 20) (omega arith))
-
 -- terms that are at most c times those of w, which are not negative
 pub sum-dominated : (n c : ℕ) (f w : ℕ → ℤ) → ((k : ℕ) → k < n → pos 0 ≤ℤ w k) → ((k : ℕ) → k < n → natAbs (f k) ≤ c * natAbs (w k))
     → natAbs (sum n f) ≤ c * natAbs (sum n w)
 unfolding sum
 sum-dominated zero c f w p h = omega arith
 sum-dominated (suc n) c f w p h =
-    rw (natAbs-nonneg-+ℤ (sum-nonneg n w (λ k l. p k (omega arith))) (p n (omega arith)), mul-add c (natAbs (sum n w)) (natAbs (w n)))
+    rw (natAbs-plus (sum-nonneg n w (λ k l. p k (omega arith))) (p n (omega arith)), mul-add c (natAbs (sum n w)) (natAbs (w n)))
     (omega (arith, natAbs-+ℤ (sum n f) (f n), sum-dominated n c f w (λ k l. p k (omega arith)) (λ k l. h k (omega arith)), h n (omega arith)))
+
+-- a weighted sum is no larger than its weights' sum times the largest number
+pub sum-weighted : (n c : ℕ) (f h : ℕ → ℤ) → ((k : ℕ) → k < n → pos 0 ≤ℤ f k) → ((k : ℕ) → k < n → natAbs (h k) ≤ c)
+    → natAbs (sum n (λ k. f k *ℤ h k)) ≤ c * natAbs (sum n f)
+sum-weighted n c f h p q =
+    sum-dominated n c (λ k. f k *ℤ h k) f p (λ k l. rw (natAbs-*ℤ (f k) (h k), mul-comm c (natAbs (f k))) (mul-le-mul-left (natAbs (f k)) (q k l)))
 
 -- ---- double sums
 pub sum-swap : (n m : ℕ) (f : ℕ → ℕ → ℤ) → sum n (λ i. sum m (λ j. f i j)) ≡ sum m (λ j. sum n (λ i. f i j))

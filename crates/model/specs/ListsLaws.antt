@@ -1,5 +1,5 @@
 -- Laws of Lists. Assumes nothing.
-use mathlib.Core.Path.{_≡_, refl, sym, _∙_, ap, subst}
+use mathlib.Core.Path.{_≡_, refl, sym, _∙_, ap, ap₂, subst}
 use mathlib.Core.Bool.{Bool, true, false, _&&_, cond, and-false, false≢true}
 use mathlib.Core.List.{List, [], _∷_, _++_}
 use mathlib.Core.Logic.{⊎-elim}
@@ -61,7 +61,7 @@ tabulate-same zero d = refl
 tabulate-same (suc n) d = ap (λ l. d ∷ l) (tabulate-same n d)
 
 -- a store at i, where g is f but at i
-set-tabulate : {A : Type 0} (n i : ℕ) (f g : ℕ → A) → i < n → ((k : ℕ) → (k ≡ i → ⊥) → g k ≡ f k) → set (tabulate n f) i (g i) ≡ tabulate n g
+pub set-tabulate : {A : Type 0} (n i : ℕ) (f g : ℕ → A) → i < n → ((k : ℕ) → (k ≡ i → ⊥) → g k ≡ f k) → set (tabulate n f) i (g i) ≡ tabulate n g
 unfolding tabulate
 set-tabulate zero i f g h o = absurd (not-suc-le-zero h)
 set-tabulate (suc n) zero f g h o =
@@ -84,6 +84,20 @@ pub getD-listed-past : {A : Type 0} (n m : ℕ) (f : ℕ → A) (d : A) (k : ℕ
 unfolding listed
 getD-listed-past n m f d k x h l = getD-tabulate n (λ k. cond (ltb k m) (f k) d) k x h ∙ rw (le-ltb k m l)
 
+-- equal entries
+pub listed-ext : {A : Type 0} (n m : ℕ) (f g : ℕ → A) (d : A) → ((k : ℕ) → k < m → f k ≡ g k) → listed n m f d ≡ listed n m g d
+unfolding listed
+listed-ext n m f g d e = tabulate-ext n (λ k. cond (ltb k m) (f k) d) (λ k. cond (ltb k m) (g k) d) (λ k h. by-test k (ltb k m) refl)
+  where
+    by-test : (k : ℕ) (t : Bool) → ltb k m ≡ t → cond t (f k) d ≡ cond t (g k) d
+    by-test k true q = e k (ltb-true k m q)
+    by-test k false q = refl
+
+-- every place an entry
+pub listed-whole : {A : Type 0} (n : ℕ) (f : ℕ → A) (d : A) → listed n n f d ≡ tabulate n f
+unfolding listed
+listed-whole n f d = tabulate-ext n (λ k. cond (ltb k n) (f k) d) f (λ k h. rw (lt-ltb k n h))
+
 pub listed-none : {A : Type 0} (n : ℕ) (f : ℕ → A) (d : A) → replicate n d ≡ listed n 0 f d
 unfolding listed
 listed-none n f d = tabulate-same n d ∙ tabulate-ext n (λ _. d) (λ k. cond (ltb k 0) (f k) d) (λ k h. rw (le-ltb k 0 (omega arith)))
@@ -103,6 +117,10 @@ listed-more {A} n i f d h =
     by-test : (k : ℕ) (t : Bool) → ltb k i ≡ t → (k ≡ i → ⊥) → cond (ltb k (i + 1)) (f k) d ≡ cond (ltb k i) (f k) d
     by-test k true e o = let l : k < i = ltb-true k i e in rw (lt-ltb k (i + 1) (omega arith), e)
     by-test k false e o = let l : i ≤ k = ltb-false k i e in rw (le-ltb k (i + 1) (next k l o), e)
+
+-- the same for a list and a number that are known to be these
+pub listed-next : {A : Type 0} (n i : ℕ) (f : ℕ → A) (d : A) {out : List A} {v : A} → i < n → out ≡ listed n i f d → v ≡ f i → set out i v ≡ listed n (i + 1) f d
+listed-next {A} n i f d h e q = ap₂ (λ (l : List A) (x : A). set l i x) e q ∙ listed-more n i f d h
 
 -- ---- tests of every number
 
@@ -146,3 +164,15 @@ pub every-ext : (p q : ℕ → Bool) (n : ℕ) → ((k : ℕ) → k < n → p k 
 unfolding every
 every-ext p q zero h = refl
 every-ext p q (suc n) h = rw (every-ext p q n (λ k l. h k (omega arith)), h n (omega arith))
+
+-- two tests at once
+pub every-and : (p q : ℕ → Bool) (n : ℕ) → every n (λ k. p k && q k) ≡ (every n p && every n q)
+unfolding every
+every-and p q zero = refl
+every-and p q (suc n) = rw (every-and p q n) (regroup (every n p) (every n q) (p n) (q n))
+  where
+    regroup : (a b c d : Bool) → (a && b && (c && d)) ≡ (a && c && (b && d))
+    regroup true b true d = refl
+    regroup true true false d = refl
+    regroup true false false d = refl
+    regroup false b c d = refl

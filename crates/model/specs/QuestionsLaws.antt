@@ -1,12 +1,22 @@
 -- Laws of Questions. Assumes nothing.
 use mathlib.Core.Path.{_≡_, refl, sym, _∙_, ap}
-use mathlib.Core.Bool.{Bool, true, false, _&&_, cond}
+use mathlib.Core.Bool.{Bool, true, false, _&&_, cond, and-false}
 use mathlib.Core.List.{List, [], _∷_, _++_}
-use Prim.Native.Nat.{ℕ, zero, suc, _+_, _≤_}
+use Prim.Native.Nat.{ℕ, zero, suc, _+_, _-_, _≤_}
 use native.Mathlib.Omega.{arith}
 use lib.Dec.{T, leb, eqb}
+use lib.IntN.{ℤ}
+use lib.Signed.{leZ}
 use borrow.Author.Tests.{ne-eqb, leb-true}
-use Rattle.model.specs.Questions.{Question, firstNo}
+use Rattle.integers.specs.Parts.{_⩽_, _⋖_}
+use Rattle.integers.specs.Order.{le-yes, leZ-true, leZ-false}
+use Rattle.model.specs.Lists.{every}
+use Rattle.model.specs.ListsLaws.{every-at, every-all, and-left, and-right}
+use Rattle.model.specs.Questions.{Question, within, firstNo, eachCell}
+
+pub none-left : firstNo [] ≡ 0
+unfolding firstNo
+none-left = refl
 
 -- a question that gets a yes, and one that gets a no
 pub yes-first : (n : ℕ) (t : Bool) (qs : List Question) → t ≡ true → firstNo ((n, t) ∷ qs) ≡ firstNo qs
@@ -40,3 +50,30 @@ first-append ((n, t) ∷ xs) ys h = by-answer t (leb 1 n) refl h (first-append x
     by-answer true true e k rest = rest k
     by-answer false true e k rest = let l : 1 ≤ n = leb-true 1 n e in rw (ne-eqb n 0 (λ z. omega arith))
     by-answer t false e k rest = absurd k
+
+-- ---- a number between two bounds
+
+module _ (lo hi x : ℤ) where
+  pub within-so : within lo hi x ≡ true → (lo ⩽ x) × (x ⩽ hi)
+  within-so e = (le-yes (and-left (leZ lo x) (leZ x hi) e), le-yes (and-right (leZ lo x) (leZ x hi) e))
+
+  pub within-yes : lo ⩽ x → x ⩽ hi → within lo hi x ≡ true
+  within-yes h l = rw (leZ-true h, leZ-true l)
+
+  pub below-no : x ⋖ lo → within lo hi x ≡ false
+  below-no h = rw (leZ-false h)
+
+  pub above-no : hi ⋖ x → within lo hi x ≡ false
+  above-no h = rw (leZ-false h) (and-false (leZ lo x))
+
+-- ---- a test of each cell
+
+pub eachCell-at : (m : ℕ) (p : ℕ → ℕ → Bool) → eachCell m p ≡ true → (i j : ℕ) → 1 ≤ i → i + j ≤ m → p i j ≡ true
+unfolding eachCell
+eachCell-at m p h i j l u =
+    let e : suc (i - 1) ≡ i = omega arith in
+    rw e at (every-at (λ j. p (suc (i - 1)) j) (m - (i - 1)) j (every-at (λ k. every (m - k) (λ j. p (suc k) j)) m (i - 1) h (omega arith)) (omega arith))
+
+pub eachCell-all : (m : ℕ) (p : ℕ → ℕ → Bool) → ((i j : ℕ) → 1 ≤ i → i + j ≤ m → p i j ≡ true) → eachCell m p ≡ true
+unfolding eachCell
+eachCell-all m p h = every-all (λ k. every (m - k) (λ j. p (suc k) j)) m (λ k l. every-all (λ j. p (suc k) j) (m - k) (λ j u. h (suc k) j (omega arith) (omega arith)))

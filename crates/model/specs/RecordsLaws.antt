@@ -1,10 +1,10 @@
 -- Laws of Records. Assumes nothing.
 use mathlib.Core.Path.{_≡_, refl, sym, _∙_, ap, ap₂}
-use mathlib.Core.Bool.{Bool, true, false, _&&_, cond}
+use mathlib.Core.Bool.{Bool, true, false, _&&_, cond, and-false}
 use mathlib.Core.List.{List}
 use Prim.Native.Nat.{ℕ, suc, _+_, _-_, _*_, _/_, _%_, _<_, _≤_}
 use native.Mathlib.Omega.{arith}
-use borrow.Author.Tests.{le-leb}
+use borrow.Author.Tests.{le-leb, lt-leb}
 use lib.Dec.{leb}
 use lib.IntN.{ℤ, pos}
 use Rattle.model.specs.ListsLaws.{getD-tabulate}
@@ -12,6 +12,9 @@ use Rattle.model.specs.Records.{inside, cell, triangle}
 
 pub inside-yes : (m i j : ℕ) → 1 ≤ i → i + j ≤ m → inside m i j ≡ true
 inside-yes m i j h l = rw (le-leb 1 i h, le-leb (i + j) m l)
+
+pub inside-no : (m i j : ℕ) → m < i + j → inside m i j ≡ false
+inside-no m i j l = rw (lt-leb (i + j) m l, and-false (leb 1 i))
 
 -- a cell of a triangle that is made cell by cell
 pub cell-triangle : (m : ℕ) (v : ℕ → ℕ → ℤ) (i j : ℕ) → m ≤ 20 → 1 ≤ i → i + j ≤ m → cell (triangle m v) i j ≡ v i j

@@ -1,0 +1,21 @@
+-- `calendar::text::put` meets its contract. Assumes nothing.
+use native.Mathlib.Omega.{arith}
+use Rattle.calendar.specs.Written.{written-byte}
+use borrow.Author.Needs.{needs}
+use Rattle.calendar.proofs.text.put.Statement.{statement}
+use Rattle.calendar.proofs.text.put.Tie as tie
+
+slice-write-out : tie.Need-slice-write-out
+slice-write-out c = search needs
+
+add-result : tie.Need-add-result
+add-result c = search needs
+
+same-length : tie.Need-same-length
+same-length c = search needs
+
+returns : tie.Need-returns
+returns c = written-byte (c .args .out .now) (c .args .at) (c .args .b) (omega arith)
+
+pub put-spec : {M : Type 1} → statement M
+put-spec = tie.close (tie.spec slice-write-out add-result same-length returns)

@@ -1,0 +1,62 @@
+-- `calendar::text::write_amount` meets its contract: a sign and the digits of the magnitude, or the digits alone. Assumes nothing.
+use mathlib.Core.Path.{_≡_, ap}
+use mathlib.Core.List.{_∷_}
+use native.Mathlib.Omega.{arith}
+use lib.ListN.{length}
+use Rattle.model.specs.Calendar.{digits, amount}
+use Rattle.calendar.specs.Written.{written-then}
+use Rattle.calendar.proofs.Signs.{amount-below, amount-not-below}
+use borrow.Author.Needs.{needs}
+use Rattle.calendar.proofs.text.write_amount.Statement.{statement}
+use Rattle.calendar.proofs.text.write_amount.Tie as tie
+
+below : (c : tie.Then1) → amount (c .before .before .before .args .value) ≡ 45 ∷ digits (c .before .magnitude .result)
+below c =
+    let s = c .before .before .before in
+    amount-below (s .args .value) (c .before .magnitude .result) (s .fits .value) (c .if1 .taken) (c .before .magnitude .ensures)
+
+not-below : (c : tie.Else1) → amount (c .before .before .before .args .value) ≡ digits (c .before .magnitude .result)
+not-below c =
+    let s = c .before .before .before in
+    amount-not-below (s .args .value) (c .before .magnitude .result) (s .fits .value) (c .if1 .left) (c .before .magnitude .ensures)
+
+magnitude-requires : tie.Need-magnitude-requires
+magnitude-requires c κs = search needs
+
+put-requires : tie.Need-put-requires
+put-requires c κs = omega (arith, ap length (below (c .before)))
+
+write-digits-requires : tie.Need-write-digits-requires
+write-digits-requires c κs =
+    let p = c .before .before .before in
+    omega (arith, ap length (below (p .before .before)), p .put .ensures .end)
+
+same-length : tie.Need-same-length
+same-length c = search needs
+
+returns : tie.Need-returns
+returns c =
+    let p = c .before .before .before .before .before .before in
+    rw (below (p .before .before)) (written-then (p .put .ensures) (c .before .before .write-digits .ensures))
+
+write-digits-requires-2 : tie.Need-write-digits-requires-2
+write-digits-requires-2 c κs = omega (arith, ap length (not-below (c .before)))
+
+same-length-2 : tie.Need-same-length-2
+same-length-2 c = search needs
+
+returns-2 : tie.Need-returns-2
+returns-2 c = rw (not-below (c .before .before .before .before)) (c .before .before .write-digits2 .ensures)
+
+pub write-amount-spec : {M : Type 1} → statement M
+write-amount-spec =
+    tie.close
+    (tie.spec
+    magnitude-requires
+    put-requires
+    write-digits-requires
+    same-length
+    returns
+    write-digits-requires-2
+    same-length-2
+    returns-2)

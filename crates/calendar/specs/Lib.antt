@@ -1,0 +1,10 @@
+-- Laws of document 01's "Calendar years and the program".
+pub mod YearSums
+pub mod Printable
+pub mod Written
+pub mod Digits
+pub mod Amount
+pub mod Pages
+pub mod Runs
+pub mod Cut
+pub mod ReadBack

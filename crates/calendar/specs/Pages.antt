@@ -1,0 +1,103 @@
+-- Laws of the page: its parts in the order in which they are written, and its length. Assumes nothing.
+use mathlib.Core.Path.{_≡_, refl, sym, ap, _∙_}
+use mathlib.Core.Bool.{true}
+use mathlib.Core.List.{List, [], _∷_, _++_, append-assoc}
+use Prim.Native.Nat.{ℕ, zero, suc, _+_, _-_, _*_, _≤_, _<_}
+use native.Mathlib.Nat.{le-refl}
+use native.Mathlib.Decide.{le-ind}
+use native.Mathlib.Numerals.{add-one}
+use native.Mathlib.Omega.{arith}
+use lib.IntN.{ℤ, _+ℤ_}
+use lib.ListN.{length, length-append}
+use Rattle.integers.specs.Sums.{sum}
+use Rattle.model.specs.Lists.{at}
+use Rattle.model.specs.Calendar.{fits64, digits, amount, line, lines, page, refusalText}
+use Rattle.model.specs.declared.Tally.{Tally}
+use Rattle.calendar.specs.Digits.{digits-length}
+use Rattle.calendar.specs.Amount.{amount-length}
+use Rattle.calendar.specs.Printable.{Printable}
+
+-- a space and an amount
+unfoldable pub field : ℤ → List ℕ
+field z = (32 ∷ []) ++ amount z
+
+-- what stands behind a line's name
+unfoldable pub sums : ℤ → ℤ → List ℕ
+sums x y = field x ++ field y ++ field (x +ℤ y) ++ (10 ∷ [])
+
+-- ---- the parts
+
+grouped : (n s a b c e : List ℕ) → n ++ s ++ a ++ s ++ b ++ s ++ c ++ e ≡ n ++ ((s ++ a) ++ (s ++ b) ++ (s ++ c) ++ e)
+grouped n s a b c e = simp append-assoc
+
+pub line-is : (name : List ℕ) (x y : ℤ) → line name x y ≡ name ++ sums x y
+unfolding line sums field
+line-is name x y = grouped name (32 ∷ []) (amount x) (amount y) (amount (x +ℤ y)) (10 ∷ [])
+
+pub lines-none : (t : Tally) → lines t 0 ≡ []
+unfolding lines
+lines-none t = refl
+
+pub lines-next : (t : Tally) (k : ℕ) → lines t (k + 1) ≡ lines t k ++ (digits (k + 1) ++ sums (at (t .rbns) k) (at (t .ibnr) k))
+unfolding lines
+lines-next t k = rw (add-one k, line-is (digits (suc k)) (at (t .rbns) k) (at (t .ibnr) k))
+
+-- the last line
+abbrev pub totals : ℕ → Tally → List ℕ
+totals n t = (84 ∷ []) ++ sums (sum n (at (t .rbns))) (sum n (at (t .ibnr)))
+
+pub page-is : (m : ℕ) (t : Tally) → page m t ≡ lines t (2 * m - 2) ++ totals (2 * m - 2) t
+unfolding page
+page-is m t = rw (line-is (84 ∷ []) (sum (2 * m - 2) (at (t .rbns))) (sum (2 * m - 2) (at (t .ibnr))))
+
+-- ---- their lengths
+
+pub field-size : (z : ℤ) → length (field z) ≡ 1 + length (amount z)
+unfolding field
+field-size z = omega arith
+
+pub sums-size : (x y : ℤ) → length (sums x y) ≡ length (field x) + length (field y) + length (field (x +ℤ y)) + 1
+unfolding sums
+sums-size x y = simp length-append
+
+next-size : (t : Tally) (k : ℕ) → length (lines t (k + 1)) ≡ length (lines t k) + (length (digits (k + 1)) + length (sums (at (t .rbns) k) (at (t .ibnr) k)))
+next-size t k = ap length (lines-next t k) ∙ simp length-append
+
+pub page-size : (m : ℕ) (t : Tally) → length (page m t) ≡ length (lines t (2 * m - 2)) + (1 + length (sums (sum (2 * m - 2) (at (t .rbns))) (sum (2 * m - 2) (at (t .ibnr)))))
+page-size m t = ap length (page-is m t) ∙ simp length-append (omega arith)
+
+-- the next line has room where n lines have it
+pub next-room : (t : Tally) (k n : ℕ) → k < n → length (lines t k) + (length (digits (k + 1)) + length (sums (at (t .rbns) k) (at (t .ibnr) k))) ≤ length (lines t n)
+next-room t k n h =
+    rw (sym (next-size t k))
+    (le-ind (λ i. length (lines t (k + 1)) ≤ length (lines t i)) (le-refl (length (lines t (k + 1))))
+    (λ i l e. rw (sym (add-one i)) (omega (arith, next-size t i))) n (omega arith))
+
+pub refusal-size : (n : ℕ) → length (refusalText n) ≡ 9 + length (digits n)
+unfolding refusalText
+refusal-size n = simp length-append (omega arith)
+
+-- ---- at most 2,573 bytes: 38 lines of 66 and one of 65
+
+sums-length : (x y : ℤ) → fits64 x ≡ true → fits64 y ≡ true → fits64 (x +ℤ y) ≡ true → length (sums x y) ≤ 64
+sums-length x y a b c =
+    omega (arith, sums-size x y, field-size x, field-size y, field-size (x +ℤ y), amount-length x a, amount-length y b, amount-length (x +ℤ y) c)
+
+module _ (m : ℕ) (t : Tally) (few : m ≤ 20) (p : Printable m t) where
+  lines-length : (n : ℕ) → n ≤ 2 * m - 2 → length (lines t n) ≤ 66 * n
+  lines-length zero h = rw (lines-none t) (omega arith)
+  lines-length (suc n) h =
+      rw (sym (add-one n))
+      (omega (
+        arith,
+        next-size t n,
+        lines-length n (omega arith),
+        digits-length 1 (n + 1) (omega arith),
+        sums-length (at (t .rbns) n) (at (t .ibnr) n) (p .first n (omega arith)) (p .second n (omega arith)) (p .both n (omega arith)),
+      ))
+
+  pub page-length : length (page m t) ≤ 2573
+  page-length =
+      let n = 2 * m - 2 in
+      let s = sums-length (sum n (at (t .rbns))) (sum n (at (t .ibnr))) (p .first-total n (omega arith)) (p .second-total n (omega arith)) (p .total) in
+      omega (arith, page-size m t, lines-length n (omega arith))

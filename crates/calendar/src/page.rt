@@ -1,0 +1,114 @@
+// The text that `closing` prints: the page of a tally, or a refusal.
+use crate::text::put;
+use crate::text::write_amount;
+use crate::text::write_digits;
+use model::Tally;
+ghost use mathlib.Core.Path.{_≡_};
+ghost use mathlib.Core.Bool.{true};
+ghost use Prim.Native.Nat.{ℕ, _+_, _≤_, _<_};
+ghost use lib.IntN.{_+ℤ_};
+ghost use lib.ListN.{length};
+ghost use Rattle.integers.specs.Sums.{sum};
+ghost use Rattle.model.specs.Lists.{at};
+ghost use Rattle.model.specs.Overlay.{overlay};
+ghost use Rattle.model.specs.Calendar.{fits64, lines, page, refusalText};
+ghost use Rattle.calendar.specs.Written.{Written};
+ghost use Rattle.calendar.specs.Printable.{Printable};
+ghost use Rattle.calendar.specs.Pages.{field, sums};
+
+// Writes a space and an amount.
+fn write_field(out: &mut [u8], at: usize, value: i64) -> usize
+    requires { ⌜ at + length (field value) ≤ length (now out) ⌝ }
+    ensures { λ r. ⌜ Written (now (out .entry)) at (field value) (now (out .exit)) r ⌝ }
+{
+    let next = put(out, at, b' ');
+    write_amount(out, next, value)
+}
+
+// Writes what stands behind a line's name: RBNS, IBNR, their sum, and a newline.
+fn write_sums(out: &mut [u8], at: usize, rbns: i64, ibnr: i64) -> usize
+    requires { ⌜ fits64 (rbns +ℤ ibnr) ≡ true ⌝ }
+    requires { ⌜ at + length (sums rbns ibnr) ≤ length (now out) ⌝ }
+    ensures { λ r. ⌜ Written (now (out .entry)) at (sums rbns ibnr) (now (out .exit)) r ⌝ }
+{
+    let both = rbns + ibnr;
+    let second = write_field(out, at, rbns);
+    let third = write_field(out, second, ibnr);
+    let end = write_field(out, third, both);
+    put(out, end, b'\n')
+}
+
+// Writes the lines of years 1 to n at the start of the output.
+fn write_lines(out: &mut [u8], n: usize, t: Tally) -> usize
+    requires { ⌜ n ≤ 38 ⌝ }
+    requires { ⌜ ((k : ℕ) → k < n → fits64 (at (t .rbns) k +ℤ at (t .ibnr) k) ≡ true) ⌝ }
+    requires { ⌜ length (lines t n) ≤ length (now out) ⌝ }
+    ensures { λ r. ⌜ Written (now (out .entry)) 0 (lines t n) (now (out .exit)) r ⌝ }
+{
+    let mut end = 0;
+    let mut k = 0;
+    while k < n {
+        let rbns = t.rbns[k];
+        let ibnr = t.ibnr[k];
+        let year = k + 1;
+        let next = write_digits(out, end, year as u64);
+        end = write_sums(out, next, rbns, ibnr);
+        k = year;
+    }
+    end
+}
+
+// The total of the first n years.
+fn total(xs: [i64; 38], n: usize) -> i64
+    requires { ⌜ n ≤ 38 ⌝ }
+    requires { ⌜ ((k : ℕ) → k ≤ n → fits64 (sum k (at xs)) ≡ true) ⌝ }
+    ensures { λ r. ⌜ r ≡ sum n (at xs) ⌝ }
+{
+    let mut s = 0i64;
+    let mut k = 0;
+    while k < n {
+        s = s + xs[k];
+        k += 1;
+    }
+    s
+}
+
+// Writes the page of a tally at the start of the output, and hands back its length.
+pub fn write_page(out: &mut [u8], m: usize, t: Tally) -> usize
+    requires { ⌜ (2 ≤ m) × (m ≤ 20) ⌝ }
+    requires { ⌜ Printable m t ⌝ }
+    requires { ⌜ length (page m t) ≤ length (now out) ⌝ }
+    ensures { λ r. ⌜ (now (out .exit) ≡ overlay (now (out .entry)) 0 (page m t)) × (r ≡ length (page m t)) ⌝ }
+{
+    let years = 2 * m - 2;
+    let end = write_lines(out, years, t);
+    let rbns = t.rbns;
+    let ibnr = t.ibnr;
+    let first = total(rbns, years);
+    let second = total(ibnr, years);
+    let next = put(out, end, b'T');
+    write_sums(out, next, first, second)
+}
+
+// Writes the bytes of s at the start of the output.
+fn write_bytes(out: &mut [u8], s: &[u8]) -> usize
+    requires { ⌜ length (now s) ≤ length (now out) ⌝ }
+    ensures { λ r. ⌜ Written (now (out .entry)) 0 (now (s .entry)) (now (out .exit)) r ⌝ }
+{
+    let mut k = 0;
+    while k < s.len() {
+        out[k] = s[k];
+        k += 1;
+    }
+    k
+}
+
+// Writes "refused n" and a newline at the start of the output, and hands back the text's length.
+pub fn write_refusal(out: &mut [u8], n: u64) -> usize
+    requires { ⌜ length (refusalText n) ≤ length (now out) ⌝ }
+    ensures { λ r. ⌜ (now (out .exit) ≡ overlay (now (out .entry)) 0 (refusalText n)) × (r ≡ length (refusalText n)) ⌝ }
+{
+    let next = write_bytes(out, b"refused ");
+    let end = write_digits(out, next, n);
+    put(out, end, b'\n')
+}

@@ -1,0 +1,35 @@
+-- `cells::bases::left_over` meets its contract. Assumes nothing.
+use mathlib.Core.Path.{_≡_, sym, _∙_, ap}
+use native.Mathlib.Omega.{arith}
+use lib.IntN.{ℤ, _-ℤ_}
+use mir.Syntax.{w64}
+use mir.Val.{SFits, toZ, ofZ}
+use mir.Facts.{toZ-ofZ}
+use Rattle.arithmetic.proofs.Words.{fits-abs}
+use Rattle.cells.proofs.Words.{equal-words}
+use Rattle.cells.specs.BasesLaws.{left-none, left-settled, left-open, incurred-small, reserve-pos}
+use Rattle.cells.proofs.bases.left_over.Statement.{statement}
+use Rattle.cells.proofs.bases.left_over.Tie as tie
+
+incurred-fits : (s : tie.Start) → SFits w64 (s .args .w -ℤ s .args .c)
+incurred-fits s = fits-abs (omega (arith, incurred-small (s .pre)))
+
+returns : tie.Need-returns
+returns c = let a = c .before .args in sym (left-none (a .method) (a .u) (a .w) (a .c) (c .if1 .taken))
+
+sub-result : tie.Need-sub-result
+sub-result c = let s = c .before .before in rw (toZ-ofZ (s .fits .w), toZ-ofZ (s .fits .c)) (incurred-fits s)
+
+returns-2 : tie.Need-returns-2
+returns-2 c =
+    let s = c .before .before in
+    let e = equal-words (s .fits .u) (s .fits .c) (c .if2 .taken) in
+    rw (toZ-ofZ (s .fits .w), toZ-ofZ (s .fits .c), toZ-ofZ (incurred-fits s)) (sym (left-settled (s .args .method) (s .args .u) (s .args .w) (s .args .c) (omega arith) e))
+
+returns-3 : tie.Need-returns-3
+returns-3 c =
+    let s = c .before .before in
+    sym (left-open (s .args .method) (s .args .u) (s .args .w) (s .args .c) (omega arith) (reserve-pos (s .pre) (λ e. c .if2 .left (ap (ofZ w64) e))))
+
+pub left-over-spec : {M : Type 1} → statement M
+left-over-spec = tie.close (tie.spec returns sub-result returns-2 returns-3)

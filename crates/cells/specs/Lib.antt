@@ -1,0 +1,12 @@
+-- Bases: a year's row base and left over. Weights: what the cells ask of weights and delays. CellOf: a cell, the entries of a year and of several years.
+-- Ready: what the writing of the years asks.
+pub mod Bases
+pub mod BasesLaws
+pub mod Weights
+pub mod WeightsLaws
+pub mod PairLaws
+pub mod CellOf
+pub mod EntryLaws
+pub mod YearsLaws
+pub mod Ready
+pub mod ReadyLaws

@@ -1,0 +1,28 @@
+-- What the cells ask of their callers: the sizes of weights and delays, by which every sum fits 64 bits.
+use Prim.Native.Nat.{ℕ, _*_, _+_, _-_, _^_, _≤_, _<_}
+use mathlib.Core.Bool.{cond}
+use mathlib.Core.List.{List}
+use lib.Dec.{eqb}
+use lib.IntN.{ℤ, pos, natAbs, _*ℤ_}
+use Rattle.integers.specs.Parts.{_⩽_}
+use Rattle.integers.specs.Sums.{sum}
+use Rattle.model.specs.Lists.{at, listed}
+use Rattle.model.specs.Records.{cell}
+use Rattle.model.specs.Rounding.{r}
+
+-- weights of counts: not negative, and together at most S and one half for each of 20 roundings
+pub record Weights (x : List ℤ) : Type 0 where
+  pub low : (k : ℕ) → k < 20 → pos 0 ⩽ at x k
+  pub sum-high : sum 20 (at x) ⩽ pos (10 ^ 9 + 20)
+
+-- delays that pass question 12
+abbrev pub Delays : List ℤ → Type 0
+Delays p = (l : ℕ) → l < 20 → natAbs (at p l) ≤ 8 * 10 ^ 9
+
+-- "r(count(i,k) × the count share g(m-i) / C(i,m-i) of counts)", for that share g and that sum c
+unfoldable pub actualWeight : List ℤ → ℕ → ℤ → ℤ → ℕ → ℤ
+actualWeight counts i g c k = r (cell counts i k *ℤ g) c
+
+-- s(k) of year i: the shares of counts for basis 1, else by the actual counts
+unfoldable pub weightsFrom : ℕ → List ℤ → ℕ → ℕ → List ℤ → ℤ → ℤ → List ℤ
+weightsFrom m counts i basis shares g c = cond (eqb basis 1) shares (listed 20 (m - i + 1) (actualWeight counts i g c) (pos 0))

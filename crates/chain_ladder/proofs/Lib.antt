@@ -1,0 +1,4 @@
+-- Laws that several proofs cite.
+pub mod Running
+pub mod Backwards
+pub mod OneTriangle

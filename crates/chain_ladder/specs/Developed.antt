@@ -1,0 +1,37 @@
+-- What this crate's functions hand back of a set of size m.
+use Prim.Native.Nat.{ℕ}
+use mathlib.Core.Bool.{false, cond}
+use mathlib.Core.List.{List}
+use lib.IntN.{ℤ}
+use Rattle.model.specs.Shares as Shares
+use Rattle.model.specs.Shares.{gList, bList}
+use Rattle.model.specs.Questions.{firstNo, ofShares, q13}
+use Rattle.model.specs.Calls.{ifAccepted, zeros}
+use Rattle.model.specs.declared.TriangleSet.{TriangleSet}
+use Rattle.chain_ladder.specs.Sums.{latests}
+use Rattle.chain_ladder.specs.declared.Development.{Development}
+use Rattle.chain_ladder.specs.declared.Developed.{Developed}
+use Rattle.chain_ladder.specs.declared.Incurred.{Incurred}
+
+-- the chain ladder of a triangle
+unfoldable pub development : ℕ → List ℤ → Development
+development m t = record { latest = latests m t; g = gList m t; shares = bList m t; ultimates = Shares.ultimates m t }
+
+abbrev pub noDevelopment : Development
+noDevelopment = record { latest = zeros 20; g = zeros 20; shares = zeros 20; ultimates = zeros 20 }
+
+abbrev pub noDeveloped : ℕ → Developed
+noDeveloped n = record { refusal = n; counts = noDevelopment; paid = noDevelopment }
+
+-- that of counts and of paid, or the number of the first of questions 9 to 11 that gets a no
+unfoldable pub developed : ℕ → TriangleSet → Developed
+developed m s =
+    let n = firstNo (ofShares m s) in
+    record { refusal = n; counts = ifAccepted n (development m (s .counts)) noDevelopment; paid = ifAccepted n (development m (s .paid)) noDevelopment }
+
+abbrev pub noIncurred : Incurred
+noIncurred = record { ok = false; ultimates = zeros 20 }
+
+-- W, where question 13 gets a yes
+unfoldable pub incurredOf : ℕ → TriangleSet → Incurred
+incurredOf m s = record { ok = q13 m s; ultimates = cond (q13 m s) (Shares.ultimates m (s .incurred)) (zeros 20) }

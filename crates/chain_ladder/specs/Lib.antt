@@ -1,0 +1,11 @@
+pub mod SharesLaws
+pub mod Sums
+pub mod SumsLaws
+pub mod Ladder
+pub mod LadderLaws
+pub mod Valid
+pub mod Accepted
+pub mod UltimatesLaws
+pub mod Developed
+pub mod DevelopedLaws
+pub mod SharesCall

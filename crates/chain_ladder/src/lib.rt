@@ -1,0 +1,187 @@
+// The chain ladder of a triangle, document 01's "Shares": sums, cumulative shares, shares and ultimates, and the questions 9 to 11 and 13.
+mod ladder;
+mod sums;
+
+ghost use mathlib.Core.Path.{_≡_};
+ghost use mathlib.Core.Bool.{true};
+ghost use Prim.Native.Nat.{_≤_};
+ghost use lib.Signed.{leZ};
+ghost use Rattle.model.specs.Lists.{at, every};
+ghost use Rattle.model.specs.Calls.{noShares, sharesAnswer};
+ghost use Rattle.chain_ladder.specs.Valid.{Valid};
+ghost use Rattle.chain_ladder.specs.Developed.{noDeveloped, developed, noIncurred, incurredOf};
+
+// The sums of a triangle of m years: C(i,m-i) at place i - 1, A(j) and B(j) at place j - 1. The other places hold 0.
+pub struct TriangleSums {
+    pub latest: [i64; 20],
+    pub a: [i64; 20],
+    pub b: [i64; 20],
+}
+
+// The chain ladder of a triangle of m years: C(i,m-i) and the ultimate of year i at place i - 1, g(j) and the share of delay j at place j. Places from m on hold 0.
+pub struct Development {
+    pub latest: [i64; 20],
+    pub g: [i64; 20],
+    pub shares: [i64; 20],
+    pub ultimates: [i64; 20],
+}
+
+// The chain ladder of a set's counts and paid. A refusal of 0 says that questions 9 to 11 got a yes.
+pub struct Developed {
+    pub refusal: u64,
+    pub counts: Development,
+    pub paid: Development,
+}
+
+// The ultimates of incurred, W(i) at place i - 1, where `ok` says that question 13 got a yes; else zeros.
+pub struct Incurred {
+    pub ok: bool,
+    pub ultimates: [i64; 20],
+}
+
+// Whether each of the first n numbers is at least `least`.
+fn at_least(xs: [i64; 20], n: usize, least: i64) -> bool
+    requires { ⌜ n ≤ 20 ⌝ }
+    ensures { λ r. ⌜ r ≡ every n (λ k. leZ least (at xs k)) ⌝ }
+{
+    let mut k = 0;
+    while k < n {
+        if xs[k] < least {
+            return false;
+        }
+        k += 1;
+    }
+    true
+}
+
+// A refusal, with zeros beside it.
+fn refused(number: u64) -> Developed
+    ensures { λ r. ⌜ r ≡ noDeveloped number ⌝ }
+{
+    let zeros = [0i64; 20];
+    let none = Development {
+        latest: zeros,
+        g: zeros,
+        shares: zeros,
+        ultimates: zeros,
+    };
+    Developed {
+        refusal: number,
+        counts: none,
+        paid: none,
+    }
+}
+
+// Questions 9 to 11, and the chain ladder of counts and of paid. A share of either never rises above S, so that it is in its bounds where g(0) is.
+pub fn develop(set: model::TriangleSet, m: usize) -> Developed
+    requires { ⌜ Valid m set ⌝ }
+    ensures { λ r. ⌜ r ≡ developed m set ⌝ }
+{
+    let counts = sums::sums(&set.counts, m);
+    let rows = counts.latest;
+    if !at_least(rows, m, 1) {
+        return refused(9);
+    }
+    let paid = sums::sums(&set.paid, m);
+    let columns = paid.b;
+    if !at_least(columns, m - 1, 1) {
+        return refused(10);
+    }
+    let of_counts = ladder::cumulative_shares(counts, m);
+    if !of_counts.ok {
+        return refused(11);
+    }
+    let of_paid = ladder::cumulative_shares(paid, m);
+    if !of_paid.ok {
+        return refused(11);
+    }
+    Developed {
+        refusal: 0,
+        counts: ladder::ladder(counts, of_counts, m),
+        paid: ladder::ladder(paid, of_paid, m),
+    }
+}
+
+// A no to question 13.
+fn no_incurred() -> Incurred
+    ensures { λ r. ⌜ r ≡ noIncurred ⌝ }
+{
+    Incurred {
+        ok: false,
+        ultimates: [0i64; 20],
+    }
+}
+
+// Question 13, and the ultimates of incurred.
+pub fn incurred_ultimates(set: model::TriangleSet, m: usize) -> Incurred
+    requires { ⌜ Valid m set × (set .three ≡ true) ⌝ }
+    ensures { λ r. ⌜ r ≡ incurredOf m set ⌝ }
+{
+    let sums = sums::sums(&set.incurred, m);
+    let a = sums.a;
+    if !at_least(a, m - 1, 1) {
+        return no_incurred();
+    }
+    let b = sums.b;
+    if !at_least(b, m - 1, 1) {
+        return no_incurred();
+    }
+    let latest = sums.latest;
+    if !at_least(latest, m, 0) {
+        return no_incurred();
+    }
+    let shares = ladder::cumulative_shares(sums, m);
+    if !shares.ok {
+        return no_incurred();
+    }
+    let g = shares.g;
+    Incurred {
+        ok: true,
+        ultimates: ladder::ultimates(latest, g, m),
+    }
+}
+
+// A refusal, with zeros beside it.
+fn no_shares(number: u64) -> model::SharesAnswer
+    ensures { λ r. ⌜ r ≡ noShares number ⌝ }
+{
+    let zeros = [0i64; 20];
+    model::SharesAnswer {
+        refusal: number,
+        b: zeros,
+        n: zeros,
+        q: zeros,
+        g: zeros,
+        u: zeros,
+    }
+}
+
+// The shares and ultimates of a file: questions 1 to 5 and 9 to 11.
+pub fn shares(file: &[u8], m: usize) -> model::SharesAnswer
+    ensures { λ r. ⌜ r ≡ sharesAnswer m (now (file .entry)) ⌝ }
+{
+    let read = triangles::read_set(file, m);
+    if read.refusal != 0 {
+        return no_shares(read.refusal);
+    }
+    let set = read.set;
+    let developed = develop(set, m);
+    if developed.refusal != 0 {
+        return no_shares(developed.refusal);
+    }
+    let counts = developed.counts;
+    let paid = developed.paid;
+    let b = counts.shares;
+    let n = counts.ultimates;
+    let q = paid.shares;
+    let g = paid.g;
+    let u = paid.ultimates;
+    model::SharesAnswer {
+        refusal: 0,
+        b,
+        n,
+        q,
+        g,
+        u,
+    }
+}

@@ -1,0 +1,163 @@
+-- `solve` meets its contract: the delays so far are solved, and are in their bounds. Assumes nothing.
+use mathlib.Core.Path.{_≡_, refl, sym, _∙_, ap, ap₂}
+use mathlib.Core.Bool.{Bool, true, false}
+use mathlib.Core.List.{List}
+use Prim.Native.Nat.{ℕ, suc, _+_, _-_, _*_, _^_, _≤_, _<_}
+use native.Mathlib.Numerals.{add-one}
+use native.Mathlib.Omega.{arith}
+use lib.IntN.{ℤ, pos, negℤ, natAbs}
+use lib.ListN.{set}
+use mir.Syntax.{w64}
+use mir.Val.{SFits, toZ, ofZ}
+use mir.Facts.{toZ-ofZ}
+use Rattle.integers.specs.Parts.{_⩽_, _⋖_}
+use Rattle.integers.specs.Order.{lt-yes, lt-no, natAbs-≤}
+use Rattle.model.specs.Lists.{at, every}
+use Rattle.model.specs.ListsLaws.{every-none, every-more, every-at, every-no}
+use Rattle.model.specs.Delays.{delayAfter, delaysTo, delays}
+use Rattle.model.specs.Questions.{within, q12}
+use Rattle.model.specs.QuestionsLaws.{within-so, within-yes, below-no, above-no}
+use Rattle.arithmetic.proofs.Words.{fits-abs}
+use Rattle.delays.specs.DelaysLaws.{delay-kept, delay-from}
+use Rattle.delays.specs.Solved.{unsolved, solvedOf}
+use Rattle.delays.specs.SolvedLaws.{next-of}
+use Rattle.delays.proofs.solve.Statement.{statement}
+use Rattle.delays.proofs.solve.Tie as tie
+
+-- a delay in its bounds
+abbrev held : ℤ → Bool
+held z = within (negℤ (pos (8 * 10 ^ 9))) (pos (8 * 10 ^ 9)) z
+
+abbrev Inv-loop : tie.InvT-loop
+Inv-loop m b q p₀ l₀ p l = (l ≤ m) × (p ≡ delaysTo b q l) × (every l (λ k. held (at (delays m b q) k)) ≡ true)
+
+abbrev μ-loop : tie.MeasureT-loop
+μ-loop m b q p₀ l₀ p l = m - l
+
+-- before a delay is solved
+module _ (c : tie.After-p Inv-loop μ-loop) where
+  abbrev start : tie.Start Inv-loop μ-loop
+  start = c .before .before .before .before .before
+
+  abbrev m : ℕ
+  m = start .args .m
+
+  abbrev b : List ℤ
+  b = start .args .t2
+
+  abbrev q : List ℤ
+  q = start .args .t3
+
+  abbrev l : ℕ
+  l = c .before .before .before .before .loop .l
+
+  inside : l < m
+  inside = c .before .before .before .loop-test .taken
+
+  past-held : (k : ℕ) → k < l → natAbs (at (c .before .before .before .before .loop .p) k) ≤ 8 * 10 ^ 9
+  unfolding delays
+  past-held k h =
+      let e = ap (λ (x : List ℤ). at x k) (c .before .before .before .before .loop .inv .1) ∙ sym (delay-kept b q m l k (omega (arith, inside)) h) in
+      let w = within-so _ _ (at (delays m b q) k) (every-at (λ k. held (at (delays m b q) k)) l k (c .before .before .before .before .loop .inv .2) h) in
+      rw e (natAbs-≤ .1 (w .1, w .0))
+
+-- the delay that is solved
+module _ (c : tie.After-delay Inv-loop μ-loop) where
+  abbrev one : tie.After-p Inv-loop μ-loop
+  one = c .before
+
+  x-is : toZ w64 (ofZ w64 (c .delay .result)) ≡ at (delays (m one) (b one) (q one)) (l one)
+  x-is =
+      toZ-ofZ (record { sfits = c .delay .ok }) ∙ c .delay .ensures ∙ ap (λ (p : List ℤ). delayAfter (b one) (q one) p (l one)) (one .before .before .before .before .loop .inv .1)
+      ∙ sym (delay-from (b one) (q one) (m one) (l one) (start one .pre .few) (inside one))
+
+  -- a delay outside its bounds
+  refused : held (at (delays (m one) (b one) (q one)) (l one)) ≡ false → unsolved ≡ solvedOf (m one) (b one) (q one)
+  unfolding solvedOf q12
+  refused e = rw (every-no (λ k. held (at (delays (m one) (b one) (q one)) k)) (m one) (l one) (inside one) e)
+
+loop-holds : tie.Need-loop-holds Inv-loop μ-loop
+unfolding delaysTo
+loop-holds c = (omega arith, refl, every-none _)
+
+delay-requires : tie.Need-delay-requires Inv-loop μ-loop
+delay-requires c κs = next-of (m c) (b c) (q c) (start c .pre) (l c) (inside c) _ (past-held c)
+
+sub-if1 : tie.Need-sub-if1 Inv-loop μ-loop
+sub-if1 c = fits-abs (omega arith)
+
+no-delays-requires : tie.Need-no-delays-requires Inv-loop μ-loop
+no-delays-requires c κs = tt
+
+returns : tie.Need-returns Inv-loop μ-loop
+returns c =
+    let d = c .before .before in
+    let x : ℤ = at (delays (m (one d)) (b (one d)) (q (one d))) (l (one d)) in
+    let h : x ⋖ negℤ (pos (8 * 10 ^ 9)) = lt-yes (rw (x-is d) at (c .before .if1 .taken)) in
+    c .no-delays .ensures ∙ refused d (below-no _ _ x h)
+
+no-delays-requires-2 : tie.Need-no-delays-requires-2 Inv-loop μ-loop
+no-delays-requires-2 c κs = tt
+
+returns-2 : tie.Need-returns-2 Inv-loop μ-loop
+returns-2 c =
+    let d = c .before .before .before in
+    let x : ℤ = at (delays (m (one d)) (b (one d)) (q (one d))) (l (one d)) in
+    let h : pos (8 * 10 ^ 9) ⋖ x = lt-yes (rw (x-is d) at (c .before .if2 .taken)) in
+    c .no-delays2 .ensures ∙ refused d (above-no (negℤ (pos (8 * 10 ^ 9))) _ x h)
+
+mul-p : tie.Need-mul-p Inv-loop μ-loop
+mul-p c = let o = one (c .before .before) in omega (arith, inside o, start o .pre .few)
+
+array-set-from-p : tie.Need-array-set-from-p Inv-loop μ-loop
+array-set-from-p c = let o = one (c .before .before) in omega (arith, inside o, start o .pre .few)
+
+add-l : tie.Need-add-l Inv-loop μ-loop
+add-l c = let o = one (c .before .before) in omega (arith, inside o, start o .pre .few)
+
+loop-less : tie.Need-loop-less Inv-loop μ-loop
+loop-less c = let o = one (c .before .before) in omega (arith, inside o)
+
+loop-again : tie.Need-loop-again Inv-loop μ-loop
+unfolding delaysTo
+loop-again c =
+    let d = c .before .before in
+    let o = one d in
+    let x : ℤ = at (delays (m o) (b o) (q o)) (l o) in
+    let low : negℤ (pos (8 * 10 ^ 9)) ⩽ x = lt-no (rw (x-is d) at (c .before .if1 .left)) in
+    let high : x ⩽ pos (8 * 10 ^ 9) = lt-no (rw (x-is d) at (c .if2 .left)) in (
+      omega (arith, inside o),
+      more (b o) (q o) (l o) (o .before .before .before .before .loop .inv .1) (x-is d ∙ delay-from (b o) (q o) (m o) (l o) (start o .pre .few) (inside o)),
+      every-more _ (l o) (o .before .before .before .before .loop .inv .2) (within-yes _ _ x low high),
+    )
+  where
+    more : (b q : List ℤ) (l : ℕ) {p : List ℤ} {v : ℤ} → p ≡ delaysTo b q l → v ≡ delayAfter b q (delaysTo b q l) l → set p l v ≡ delaysTo b q (l + 1)
+    more b q l e f = rw add-one (ap₂ (λ (p : List ℤ) (v : ℤ). set p l v) e f)
+
+returns-3 : tie.Need-returns-3 Inv-loop μ-loop
+unfolding solvedOf q12 delays
+returns-3 c =
+    let s = c .before .before in
+    let e : c .before .loop .l ≡ s .args .m = omega arith in
+    let ok = rw e at (c .before .loop .inv .2) in
+    rw ok (ap (λ (p : List ℤ). record { ok = true; p = p }) (rw e at (c .before .loop .inv .1)))
+
+pub solve-spec : {M : Type 1} → statement M
+solve-spec =
+    tie.close
+    (tie.spec
+    Inv-loop
+    μ-loop
+    loop-holds
+    delay-requires
+    sub-if1
+    no-delays-requires
+    returns
+    no-delays-requires-2
+    returns-2
+    mul-p
+    array-set-from-p
+    add-l
+    loop-less
+    loop-again
+    returns-3)

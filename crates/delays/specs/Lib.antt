@@ -1,0 +1,3 @@
+pub mod DelaysLaws
+pub mod Solved
+pub mod SolvedLaws

@@ -1,0 +1,50 @@
+-- The row bases and left overs of a set under a method, and the questions 13 and 14.
+use Prim.Native.Nat.{ℕ, suc, _*_, _^_, _≤_, _<_}
+use mathlib.Core.Path.{_≡_}
+use mathlib.Core.Bool.{Bool, true, false, cond}
+use mathlib.Core.List.{List}
+use lib.Dec.{eqb}
+use lib.IntN.{ℤ, pos, natAbs}
+use Rattle.integers.specs.Parts.{_⩽_, _⋖_}
+use Rattle.model.specs.Lists.{at, listed}
+use Rattle.model.specs.Shares.{g, ultimate}
+use Rattle.model.specs.RowBases.{rowBase, leftOvers}
+use Rattle.model.specs.Questions.{firstNo, ofMethod}
+use Rattle.model.specs.Calls.{ifAccepted, zeros}
+use Rattle.model.specs.declared.TriangleSet.{TriangleSet}
+use Rattle.chain_ladder.specs.declared.Incurred.{Incurred}
+use Rattle.chain_ladder.specs.Developed.{incurredOf}
+use Rattle.chain_ladder.specs.Valid.{Valid}
+use Rattle.chain_ladder.specs.SharesLaws.{Sound}
+use Rattle.forecast.specs.declared.method.MethodBases.{MethodBases}
+
+-- V(i) at place i - 1
+unfoldable pub rowBases : ℕ → TriangleSet → ℕ → List ℤ
+rowBases m s method = listed 20 m (λ k. rowBase m s method (suc k)) (pos 0)
+
+abbrev pub noBases : ℕ → MethodBases
+noBases n = record { refusal = n; v = zeros 20; leftovers = zeros 20 }
+
+-- both lists, or the number of the first of questions 13 and 14 that gets a no: they are put under methods 1 and 2
+unfoldable pub methodBases : ℕ → TriangleSet → ℕ → MethodBases
+methodBases m s method =
+    let n = firstNo (ofMethod m s method) in
+    record { refusal = n; v = ifAccepted n (rowBases m s method) (zeros 20); leftovers = ifAccepted n (leftOvers m s method) (zeros 20) }
+
+-- W under methods 1 and 2; zeros under method 0, where incurred is not asked for
+unfoldable pub incurredUnder : ℕ → TriangleSet → ℕ → Incurred
+incurredUnder m s method = cond (eqb method 0) (record { ok = true; ultimates = zeros 20 }) (incurredOf m s)
+
+-- what questions 1, 5, 6 and 9 to 11 give: a method that is known, with its incurred, and a sound paid triangle with g(0) of at least 10^6
+pub record Asked (m : ℕ) (s : TriangleSet) (method : ℕ) : Type 0 where
+  pub valid : Valid m s
+  pub known : method ≤ 2
+  pub three : (method ≡ 0 → ⊥) → s .three ≡ true
+  pub paid : Sound m (s .paid)
+  pub least : pos (10 ^ 6) ⩽ g m (s .paid) 0
+
+-- the ultimates w of incurred as the bases use them
+pub record Incurreds (m : ℕ) (s : TriangleSet) (method : ℕ) (w : List ℤ) : Type 0 where
+  pub small : (k : ℕ) → k < m → (pos 0 ⩽ at w k) × (natAbs (at w k) ≤ 2 * 10 ^ 14)
+  pub first : method ≡ 1 → pos 0 ⋖ at w 0
+  pub are : (method ≡ 0 → ⊥) → (k : ℕ) → k < m → at w k ≡ ultimate m (s .incurred) (suc k)

@@ -1,0 +1,305 @@
+-- Laws of Method: the bases and left overs from the lists are the model's, and the questions 13 and 14 as the code asks them. Assumes nothing.
+use mathlib.Core.Path.{_≡_, refl, sym, _∙_, ap, ap₂}
+use mathlib.Core.Bool.{Bool, true, false, _&&_, cond, false≢true}
+use mathlib.Core.Logic.{⊎-elim}
+use mathlib.Core.List.{List, [], _∷_}
+use Prim.Native.Nat.{ℕ, zero, suc, _+_, _-_, _*_, _^_, _≤_, _<_}
+use native.Mathlib.Omega.{arith}
+use borrow.Author.Tests.{ne-eqb, eq-eqb, eqb-true, eqb-false, le-leb, lt-leb, leb-true, leb-false}
+use lib.Dec.{eqb, leb}
+use lib.IntN.{ℤ, pos, negℤ, natAbs}
+use lib.ListN.{getD-replicate}
+use lib.Signed.{leZ, ltZ, ≤ℤ-refl}
+use Rattle.integers.specs.Parts.{_⩽_, _⋖_, ints}
+use Rattle.integers.specs.Linear.{lin, stmt}
+use Rattle.integers.specs.Order.{nonneg, nonneg-pos, natAbs-≤, ≤ℤ-trans, le-yes, lt-yes, leZ-true}
+use Rattle.model.specs.Lists.{at, listed, every}
+use Rattle.model.specs.ListsLaws.{getD-listed, listed-ext, every-at, every-ext, every-all, and-left, and-right}
+use Rattle.model.specs.Shares as Shares
+use Rattle.model.specs.Shares.{latest, A, B, g, ultimate, ultimates}
+use Rattle.model.specs.RowBases as RowBases
+use Rattle.model.specs.RowBases.{U, W, R, R*, rowBase, leftOver, leftOvers}
+use Rattle.model.specs.Questions.{within, usesIncurred, firstNo, ofMethod, q13, q14}
+use Rattle.model.specs.QuestionsLaws.{yes-first, no-first, all-yes, within-so, within-yes}
+use Rattle.model.specs.Calls.{zeros}
+use Rattle.model.specs.declared.TriangleSet.{TriangleSet}
+use Rattle.chain_ladder.specs.declared.Incurred.{Incurred}
+use Rattle.chain_ladder.specs.Developed.{incurredOf}
+use Rattle.chain_ladder.specs.DevelopedLaws.{at-latests, bounded-first, incurred-yes}
+use Rattle.chain_ladder.specs.Sums.{latests}
+use Rattle.chain_ladder.specs.Ladder.{bounded}
+use Rattle.chain_ladder.specs.SharesLaws.{latest-nonneg}
+use Rattle.chain_ladder.specs.UltimatesLaws.{ultimate-nonneg, ultimate-small, latest-ultimate, ultimate-first, latest-first}
+use Rattle.chain_ladder.specs.Valid.{Valid, few, least, paid-small, incurred-small}
+use Rattle.cells.specs.Bases.{Year, Sizes, baseFrom, leftFrom, baseAt, leftAt, AllSizes, basesOf}
+use Rattle.forecast.specs.Method.{Asked, Incurreds, rowBases, methodBases, noBases, incurredUnder}
+
+-- a magnitude of at most n
+pub magnitude-within : (n : ℕ) (z : ℤ) → leb (natAbs z) n ≡ within (negℤ (pos n)) (pos n) z
+magnitude-within n z = by-test (leb (natAbs z) n) refl
+  where
+    by-test : (t : Bool) → leb (natAbs z) n ≡ t → leb (natAbs z) n ≡ within (negℤ (pos n)) (pos n) z
+    by-test true e = let h = natAbs-≤ {x = z} {n = n} .0 (leb-true (natAbs z) n e) in e ∙ sym (within-yes (negℤ (pos n)) (pos n) z (h .1) (h .0))
+    by-test false e = by-within (within (negℤ (pos n)) (pos n) z) refl
+      where
+        by-within : (t : Bool) → within (negℤ (pos n)) (pos n) z ≡ t → leb (natAbs z) n ≡ within (negℤ (pos n)) (pos n) z
+        by-within false w = e ∙ sym w
+        by-within true w =
+            let h = within-so (negℤ (pos n)) (pos n) z w in
+            let k = natAbs-≤ {x = z} {n = n} .1 (h .1, h .0) in
+            let l = leb-false (natAbs z) n e in absurd (omega arith)
+
+module _ (m : ℕ) (s : TriangleSet) (method : ℕ) (asked : Asked m s method) where
+  abbrev m-few : m ≤ 20
+  m-few = few m s (asked .valid)
+
+  abbrev m-least : 2 ≤ m
+  m-least = least m s (asked .valid)
+
+  abbrev u : List ℤ
+  u = ultimates m (s .paid)
+
+  abbrev c : List ℤ
+  c = latests m (s .paid)
+
+  at-ultimates : (t : List ℤ) (k : ℕ) → k < m → at (ultimates m t) k ≡ ultimate m t (suc k)
+  unfolding ultimates
+  at-ultimates t k h = getD-listed 20 m (λ k. ultimate m t (suc k)) (pos 0) k (pos 0) (omega (arith, m-few)) h
+
+  paid-bounded : every m (λ j. bounded (g m (s .paid) j)) ≡ true
+  paid-bounded =
+      bounded-first m (s .paid) (let l = m-least in omega arith) (paid-small m s (asked .valid)) (asked .paid .cells) (asked .paid .columns) ∙ leZ-true (asked .least)
+
+  module _ (k : ℕ) (h : k < m) where
+    paid-high : natAbs (ultimate m (s .paid) (suc k)) ≤ 2 * 10 ^ 14
+    paid-high = ultimate-small m (s .paid) (paid-small m s (asked .valid)) paid-bounded (suc k) (omega arith) (omega arith)
+
+    year : (w : List ℤ) → Incurreds m s method w → Year method (at u k) (at w k) (at c k)
+    year w i =
+        rw (at-ultimates (s .paid) k h, at-latests m (s .paid) m-few k h)
+        (record {
+          known = asked .known;
+          high = (paid-high, i .small k h .1);
+          low = i .small k h .0;
+          paid = (
+            latest-nonneg m (s .paid) (asked .paid) (suc k) (omega arith) (omega arith),
+            latest-ultimate m (s .paid) (asked .paid) (suc k) (omega arith) (omega arith),
+          );
+        })
+
+  pub sizes : (w : List ℤ) → Incurreds m s method w → AllSizes m method u c w
+  sizes w i k h =
+      let z : 0 < m = omega arith in
+      record {
+        first = rw (at-ultimates (s .paid) 0 z) (paid-high 0 z);
+        divisor = i .first;
+        divisor-high = i .small 0 z .1;
+        year = year k h w i;
+      }
+
+  -- ---- the lists of the model
+  module _ (w : List ℤ) (i : Incurreds m s method w) where
+    pub base-is : (k : ℕ) → k < m → baseAt m method u c w k ≡ rowBase m s method (suc k)
+    unfolding baseFrom rowBase U W R R*
+    base-is k h = by-method (eqb method 0) refl
+      where
+        z : 0 < m
+        z = omega arith
+
+        by-method : (t : Bool) → eqb method 0 ≡ t → baseAt m method u c w k ≡ rowBase m s method (suc k)
+        by-method true e = let q : method ≡ 0 = eqb-true method 0 e in rw (q, at-ultimates (s .paid) k h)
+        by-method false e =
+            let n : method ≡ 0 → ⊥ = eqb-false method 0 e in
+            rw (at-ultimates (s .paid) 0 z, at-ultimates (s .paid) k h, i .are n 0 z, i .are n k h, at-latests m (s .paid) m-few k h)
+
+    pub left-is : (k : ℕ) → k < m → leftAt m method u c w k ≡ leftOver m s method (suc k)
+    unfolding leftFrom leftOver U W R R*
+    left-is k h = by-method (eqb method 0) refl
+      where
+        by-method : (t : Bool) → eqb method 0 ≡ t → leftAt m method u c w k ≡ leftOver m s method (suc k)
+        by-method true e = let q : method ≡ 0 = eqb-true method 0 e in rw q
+        by-method false e =
+            let n : method ≡ 0 → ⊥ = eqb-false method 0 e in
+            rw (at-ultimates (s .paid) k h, i .are n k h, at-latests m (s .paid) m-few k h)
+
+    pub bases-are : listed 20 m (baseAt m method u c w) (pos 0) ≡ rowBases m s method
+    unfolding rowBases
+    bases-are = listed-ext 20 m (baseAt m method u c w) (λ k. rowBase m s method (suc k)) (pos 0) base-is
+
+    pub lefts-are : listed 20 m (leftAt m method u c w) (pos 0) ≡ leftOvers m s method
+    unfolding leftOvers
+    lefts-are = listed-ext 20 m (leftAt m method u c w) (λ k. leftOver m s method (suc k)) (pos 0) left-is
+
+    -- question 14 as it is asked
+    pub asked-14 : every m (λ k. leb (natAbs (baseAt m method u c w k)) (2 * 10 ^ 14)) ≡ q14 m s method
+    unfolding q14
+    asked-14 =
+        every-ext (λ k. leb (natAbs (baseAt m method u c w k)) (2 * 10 ^ 14)) _ m
+        (λ k h. ap (λ (z : ℤ). leb (natAbs z) (2 * 10 ^ 14)) (base-is k h) ∙ magnitude-within (2 * 10 ^ 14) (rowBase m s method (suc k)))
+
+    -- under method 0 it is passed
+    pub passed-14 : method ≡ 0 → every m (λ k. leb (natAbs (baseAt m method u c w k)) (2 * 10 ^ 14)) ≡ true
+    unfolding baseFrom
+    passed-14 q =
+        every-all (λ k. leb (natAbs (baseAt m method u c w k)) (2 * 10 ^ 14)) m
+        (λ k h. rw (q, at-ultimates (s .paid) k h) (le-leb (natAbs (ultimate m (s .paid) (suc k))) (2 * 10 ^ 14) (paid-high k h)))
+
+  -- ---- the two lists of incurred
+  pub no-incurred : method ≡ 0 → Incurreds m s method (zeros 20)
+  no-incurred q = record {
+    small = λ k h. rw (getD-replicate 20 k (pos 0) (pos 0) (omega (arith, m-few))) (≤ℤ-refl (pos 0), omega arith);
+    first = λ e. absurd (omega arith);
+    are = λ n. absurd (n q);
+  }
+
+  pub with-incurred : (method ≡ 0 → ⊥) → q13 m s ≡ true → Incurreds m s method (ultimates m (s .incurred))
+  unfolding q13
+  with-incurred n e = record {
+    small = λ k h. rw (at-ultimates (s .incurred) k h) (ultimate-nonneg m t (suc k) (c-low k h) (g-pos k h), ultimate-small m t (incurred-small m s (asked .valid) (asked .three n)) shares (suc k) (omega arith) (omega arith));
+    first = λ _. first-pos;
+    are = λ _ k h. at-ultimates (s .incurred) k h;
+  }
+    where
+      t : List ℤ
+      t = s .incurred
+
+      sums : every (m - 1) (λ k. ltZ (pos 0) (A m t (suc k)) && ltZ (pos 0) (B m t (suc k))) ≡ true
+      sums = and-left _ _ (and-left _ _ e)
+
+      rows : every m (λ k. leZ (pos 0) (latest m t (suc k))) ≡ true
+      rows = and-right (every (m - 1) (λ k. ltZ (pos 0) (A m t (suc k)) && ltZ (pos 0) (B m t (suc k)))) _ (and-left _ _ e)
+
+      shares : every m (λ j. within (pos (10 ^ 6)) (pos (4 * 10 ^ 9)) (g m t j)) ≡ true
+      shares = and-right (every (m - 1) (λ k. ltZ (pos 0) (A m t (suc k)) && ltZ (pos 0) (B m t (suc k))) && every m (λ k. leZ (pos 0) (latest m t (suc k)))) _ e
+
+      c-low : (k : ℕ) → k < m → pos 0 ⩽ latest m t (suc k)
+      c-low k h = le-yes (every-at (λ k. leZ (pos 0) (latest m t (suc k))) m k rows h)
+
+      g-pos : (k : ℕ) → k < m → pos 0 ⋖ g m t (m - suc k)
+      g-pos k h =
+          let w = within-so (pos (10 ^ 6)) (pos (4 * 10 ^ 9)) (g m t (m - suc k)) (every-at (λ j. within (pos (10 ^ 6)) (pos (4 * 10 ^ 9)) (g m t j)) m (m - suc k) shares (omega arith)) in
+          lin (g m t (m - suc k) ∷ []) (w .0) (search stmt depth 20) (omega arith)
+
+      first-pos : pos 0 ⋖ at (ultimates m t) 0
+      first-pos =
+          let z : 0 < m = omega (arith, m-least) in
+          let l : m - 2 < m - 1 = omega (arith, m-least) in
+          let d : suc (m - 2) ≡ m - 1 = omega (arith, m-least) in
+          rw (at-ultimates t 0 z, ultimate-first m t, latest-first m t (omega arith))
+          (lt-yes (and-right (ltZ (pos 0) (A m t (m - 1))) _ (rw d at (every-at (λ k. ltZ (pos 0) (A m t (suc k)) && ltZ (pos 0) (B m t (suc k))) (m - 1) (m - 2) sums l))))
+
+-- ---- the answer, question by question
+module _ (m : ℕ) (s : TriangleSet) (method : ℕ) where
+  pub none-asked : method ≡ 0 → firstNo (ofMethod m s method) ≡ 0
+  unfolding ofMethod firstNo
+  none-asked q = rw q
+
+  uses : method ≤ 2 → (method ≡ 0 → ⊥) → usesIncurred method ≡ true
+  uses h n = by-one (eqb method 1) refl
+    where
+      by-one : (t : Bool) → eqb method 1 ≡ t → usesIncurred method ≡ true
+      by-one true e = rw e
+      by-one false e = let o = eqb-false method 1 e in rw (e, eq-eqb method 2 (two method h n o))
+        where
+          two : (k : ℕ) → k ≤ 2 → (k ≡ 0 → ⊥) → (k ≡ 1 → ⊥) → k ≡ 2
+          two zero h n o = absurd (n refl)
+          two (suc zero) h n o = absurd (o refl)
+          two (suc (suc k)) h n o = omega arith
+
+  module _ (known : method ≤ 2) (n : method ≡ 0 → ⊥) where
+    no-13 : q13 m s ≡ false → firstNo (ofMethod m s method) ≡ 13
+    unfolding ofMethod
+    no-13 e = rw (uses known n) (no-first 13 _ _ e)
+
+    no-14 : q13 m s ≡ true → q14 m s method ≡ false → firstNo (ofMethod m s method) ≡ 14
+    unfolding ofMethod
+    no-14 a e = rw (uses known n) (yes-first 13 _ _ a ∙ no-first 14 _ _ e)
+
+    both : q13 m s ≡ true → q14 m s method ≡ true → firstNo (ofMethod m s method) ≡ 0
+    unfolding ofMethod firstNo
+    both a b = rw (uses known n, a, b)
+
+  refused-with : (k : ℕ) → firstNo (ofMethod m s method) ≡ suc k → methodBases m s method ≡ noBases (suc k)
+  unfolding methodBases
+  refused-with k e = rw (e, ne-eqb (suc k) 0 (λ z. omega arith))
+
+  pub accepted-with : firstNo (ofMethod m s method) ≡ 0 → methodBases m s method ≡ record { refusal = 0; v = rowBases m s method; leftovers = leftOvers m s method }
+  unfolding methodBases
+  accepted-with e = rw e
+
+  pub refused-13 : method ≤ 2 → (method ≡ 0 → ⊥) → q13 m s ≡ false → methodBases m s method ≡ noBases 13
+  refused-13 h n e = refused-with 12 (no-13 h n e)
+
+  pub refused-14 : method ≤ 2 → (method ≡ 0 → ⊥) → q13 m s ≡ true → q14 m s method ≡ false → methodBases m s method ≡ noBases 14
+  refused-14 h n a e = refused-with 13 (no-14 h n a e)
+
+  pub accepted : method ≤ 2 → (method ≡ 0 → ⊥) → q13 m s ≡ true → q14 m s method ≡ true → methodBases m s method ≡ record { refusal = 0; v = rowBases m s method; leftovers = leftOvers m s method }
+  accepted h n a b = accepted-with (both h n a b)
+
+  -- the ultimates of incurred that the method uses
+  pub under-none : method ≡ 0 → incurredUnder m s method ≡ record { ok = true; ultimates = zeros 20 }
+  unfolding incurredUnder
+  under-none q = rw q
+
+  pub under-some : (method ≡ 0 → ⊥) → incurredUnder m s method ≡ incurredOf m s
+  unfolding incurredUnder
+  under-some n = rw (ne-eqb method 0 n)
+
+-- ---- as the code asks: x is what it has of incurred
+module _ (m : ℕ) (s : TriangleSet) (method : ℕ) (asked : Asked m s method) (x : Incurred) (is : x ≡ incurredUnder m s method) where
+  -- method 0, or question 13
+  by-method : {P : Type 0} → (method ≡ 0 → x ≡ record { ok = true; ultimates = zeros 20 } → P) → ((method ≡ 0 → ⊥) → x ≡ incurredOf m s → P) → P
+  by-method {P} f g = go (eqb method 0) refl
+    where
+      go : (t : Bool) → eqb method 0 ≡ t → P
+      go true e = let q : method ≡ 0 = eqb-true method 0 e in f q (is ∙ under-none m s method q)
+      go false e = let n : method ≡ 0 → ⊥ = eqb-false method 0 e in g n (is ∙ under-some m s method n)
+
+  -- the answer to question 13
+  ok-is : x ≡ incurredOf m s → x .ok ≡ q13 m s
+  unfolding incurredOf
+  ok-is e = ap (λ (y : Incurred). y .ok) e
+
+  pub incurreds : x .ok ≡ true → Incurreds m s method (x .ultimates)
+  incurreds t =
+      by-method (λ q e. rw (ap (λ (y : Incurred). y .ultimates) e) (no-incurred m s method asked q))
+      (λ n e. let a : q13 m s ≡ true = sym (ok-is e) ∙ t in rw (ap (λ (y : Incurred). y .ultimates) (e ∙ incurred-yes m s a)) (with-incurred m s method asked n a))
+
+  pub answer-13 : x .ok ≡ false → methodBases m s method ≡ noBases 13
+  answer-13 t =
+      by-method (λ q e. absurd (false≢true (sym t ∙ ap (λ (y : Incurred). y .ok) e)))
+      (λ n e. refused-13 m s method (asked .known) n (sym (ok-is e) ∙ t))
+
+  module _ (t : x .ok ≡ true) where
+    abbrev passes : Bool
+    passes = every m (λ k. leb (natAbs (baseAt m method (ultimates m (s .paid)) (latests m (s .paid)) (x .ultimates) k)) (2 * 10 ^ 14))
+
+    pub answer-14 : passes ≡ false → methodBases m s method ≡ noBases 14
+    answer-14 f =
+        by-method (λ q e. absurd (false≢true (sym f ∙ passed-14 m s method asked (x .ultimates) (incurreds t) q)))
+        (λ n e. refused-14 m s method (asked .known) n (sym (ok-is e) ∙ t) (sym (asked-14 m s method asked (x .ultimates) (incurreds t)) ∙ f))
+
+    pub answer-yes : passes ≡ true → methodBases m s method ≡ record { refusal = 0; v = rowBases m s method; leftovers = leftOvers m s method }
+    answer-yes f =
+        by-method (λ q e. accepted-with m s method (none-asked m s method q))
+        (λ n e. accepted m s method (asked .known) n (sym (ok-is e) ∙ t) (sym (asked-14 m s method asked (x .ultimates) (incurreds t)) ∙ f))
+
+-- ---- the bases of an accepted set are within question 14's range
+module _ (m : ℕ) (s : TriangleSet) (method : ℕ) (asked : Asked m s method) (accepted : firstNo (ofMethod m s method) ≡ 0) where
+  fourteen : (method ≡ 0 → ⊥) → q14 m s method ≡ true
+  unfolding ofMethod
+  fourteen n = all-yes 13 _ _ (all-yes 12 _ _ (rw (uses m s method (asked .known) n) at accepted) .1) .0
+
+  ranged : (method ≡ 0 → ⊥) → (k : ℕ) → k < m → natAbs (rowBase m s method (suc k)) ≤ 2 * 10 ^ 14
+  unfolding q14
+  ranged n k h =
+      let w = within-so _ _ (rowBase m s method (suc k)) (every-at (λ k. within (negℤ (pos (2 * 10 ^ 14))) (pos (2 * 10 ^ 14)) (rowBase m s method (suc k))) m k (fourteen n) h) in
+      natAbs-≤ .1 (w .1, w .0)
+
+  pub bases-small : (k : ℕ) → k < m → natAbs (rowBase m s method (suc k)) ≤ 2 * 10 ^ 14
+  unfolding rowBase U
+  bases-small k h = go (eqb method 0) refl
+    where
+      go : (t : Bool) → eqb method 0 ≡ t → natAbs (rowBase m s method (suc k)) ≤ 2 * 10 ^ 14
+      go true e = let q : method ≡ 0 = eqb-true method 0 e in rw q (paid-high m s method asked k h)
+      go false e = ranged (eqb-false method 0 e) k h

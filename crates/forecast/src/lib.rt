@@ -1,0 +1,55 @@
+// The forecast of a set and of a file, under three methods.
+mod method;
+mod set;
+
+use model::ForecastAnswer;
+pub use set::forecast_set;
+ghost use mathlib.Core.Path.{_≡_};
+ghost use Rattle.model.specs.Questions.{q6};
+ghost use Rattle.model.specs.Calls.{Forecasted, zeros};
+
+// Question 6.
+pub fn method_known(three: bool, method: u64, basis: u64) -> bool
+    ensures { λ r. ⌜ r ≡ q6 three method basis ⌝ }
+{
+    if 2 < method {
+        return false;
+    }
+    if 1 < basis {
+        return false;
+    }
+    if method == 0 {
+        return true;
+    }
+    three
+}
+
+// A refusal, with zeros beside it.
+fn refused(number: u64) -> ForecastAnswer
+    ensures { λ r. ⌜ r ≡ record { refusal = number; leftovers = zeros 20 } ⌝ }
+{
+    ForecastAnswer {
+        refusal: number,
+        leftovers: [0i64; 20],
+    }
+}
+
+// The forecast of a file, by method (0 DCL, 1 BDCL, 2 IDCL) and basis (0 actual, 1 estimated counts): questions 1 to 7 and 9 to 14. The output's first
+// 2m(2m - 1) entries are the cells; a refusal leaves it as it was.
+pub fn forecast(file: &[u8], m: usize, method: u64, basis: u64, out: &mut [i64]) -> ForecastAnswer
+    ensures { λ r. ⌜ Forecasted m (now (file .entry)) method basis (now (out .entry)) (now (out .exit)) r ⌝ }
+{
+    let read = triangles::read_set(file, m);
+    if read.refusal != 0 {
+        return refused(read.refusal);
+    }
+    let set = read.set;
+    let three = set.three;
+    if !method_known(three, method, basis) {
+        return refused(6);
+    }
+    if out.len() < 2 * m * (2 * m - 1) {
+        return refused(7);
+    }
+    forecast_set(set, m, method, basis, out)
+}

@@ -1,0 +1,64 @@
+-- Demand 3: the distance to the reserve of a set's forecast as it is written. Assumes nothing.
+use mathlib.Core.Path.{_≡_, sym, ap₂, subst}
+use mathlib.Core.List.{List}
+use Prim.Native.Nat.{ℕ, _≤_}
+use native.Mathlib.Omega.{arith}
+use lib.IntN.{ℤ, pos, _+ℤ_}
+use Rattle.integers.specs.Parts.{_⩽_, _⋖_}
+use Rattle.integers.specs.Sums.{sum, sum-cong}
+use Rattle.model.specs.Lists.{at}
+use Rattle.model.specs.Rounding.{S}
+use Rattle.model.specs.Shares as Shares
+use Rattle.model.specs.Shares.{bList, ultimate}
+use Rattle.model.specs.Delays.{delaysOf}
+use Rattle.model.specs.RowBases as RowBases
+use Rattle.model.specs.RowBases.{rowBase}
+use Rattle.model.specs.Cells.{sList, rbns, ibnr, outputFrom}
+use Rattle.model.specs.CellsLaws.{written-rbns, written-ibnr}
+use Rattle.model.specs.PaidReserve.{whole, distance, AtMost, reserve, bound, yearSum, NearReserves}
+use Rattle.model.specs.Questions.{firstNo, ofShares}
+use Rattle.model.specs.declared.TriangleSet.{TriangleSet}
+use Rattle.chain_ladder.specs.DevelopedLaws.{all-shares, sound-counts, sound-paid}
+use Rattle.chain_ladder.specs.SharesLaws.{Sound, at-bList, g-range}
+use Rattle.chain_ladder.specs.Valid.{Valid, few, least}
+use Rattle.delays.specs.DelaysLaws.{Solves, solved}
+use Rattle.paid_reserve.specs.YearSum.{cellSum, yearCells}
+use Rattle.paid_reserve.specs.PaidReserve.{any-delays}
+
+-- ---- of a set whose counts and paid are sound, as its forecast is written
+module _ (m : ℕ) (lo : 2 ≤ m) (few : m ≤ 20) (s : TriangleSet) (before : List ℤ) where
+  abbrev b : List ℤ
+  b = bList m (s .counts)
+
+  -- the year's sum of the output is that of its cells
+  year-written : (p : List ℤ) (i : ℕ) → 1 ≤ i → i ≤ m → yearSum m (outputFrom m s p 0 1 before) i ≡ yearCells m b p (ultimate m (s .paid) i) i
+  unfolding yearSum yearCells cellSum rbns ibnr sList rowBase RowBases.U
+  year-written p i h l =
+      sum-cong m
+      (λ j u. ap₂ (λ (x y : ℤ). x +ℤ y) (written-rbns m i j h (omega arith) s p 0 1 before l) (written-ibnr m i j h (omega arith) s p 0 1 before l))
+
+  module _ (counts : Sound m (s .counts)) (paid : Sound m (s .paid)) where
+    b-S : at b 0 ⩽ S
+    unfolding Shares.b
+    b-S = rw (at-bList m (s .counts) few 0 (omega arith)) (g-range m (s .counts) counts 0 (omega arith) .1)
+
+    b-pos : pos 0 ⋖ at b 0
+    unfolding Shares.b
+    b-pos = rw (at-bList m (s .counts) few 0 (omega arith)) (counts .first)
+
+    -- for any delays that solve the system
+    pub near-any : (p : List ℤ) → Solves m b (bList m (s .paid)) p → NearReserves m (s .paid) (outputFrom m s p 0 1 before)
+    near-any p solves i h l =
+        subst (λ (z : ℤ). AtMost (distance (whole z) (reserve m (s .paid) i)) (bound m (s .paid) i)) (sym (year-written p i h l))
+        (any-delays m few (s .paid) paid i h l b p solves b-S)
+
+    -- for the delays solved here
+    pub near-solved : NearReserves m (s .paid) (outputFrom m s (delaysOf m s) 0 1 before)
+    unfolding delaysOf
+    near-solved = near-any (delaysOf m s) (solved b (bList m (s .paid)) m few b-pos)
+
+-- ---- demand 3: of every set that passes questions 9 to 11, as its forecast under method 0, basis 1 is written
+pub demand-3 : (m : ℕ) (s : TriangleSet) (before : List ℤ) → Valid m s → firstNo (ofShares m s) ≡ 0 → NearReserves m (s .paid) (outputFrom m s (delaysOf m s) 0 1 before)
+demand-3 m s before valid passed =
+    let a = all-shares m s passed in
+    near-solved m (least m s valid) (few m s valid) s before (sound-counts m s valid (a .0) (a .2)) (sound-paid m s valid (a .1) (a .2))

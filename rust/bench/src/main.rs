@@ -22,7 +22,14 @@ fn main() {
         "call", "proved, ns", "plain, ns", "ratio"
     );
     for m in SIZES {
-        reading(m, &accepted_file(m));
+        let file = accepted_file(m);
+        reading(m, &file);
+        chain_ladder(m, &file);
+        for method in 0..3 {
+            for basis in 0..2 {
+                forecasting(m, &file, method, basis);
+            }
+        }
     }
 }
 
@@ -59,6 +66,53 @@ fn reading(m: usize, file: &[u8]) {
         },
         || {
             black_box(plain::read_set(black_box(file), m)).ok();
+        },
+    );
+}
+
+fn chain_ladder(m: usize, file: &[u8]) {
+    let [mut b, mut n, mut q, mut g, mut u, mut p] = [[0; 20]; 6];
+    compare(
+        &format!("shares, m = {m}"),
+        || {
+            let file = black_box(file);
+            black_box(calls::shares(
+                file, m, &mut b, &mut n, &mut q, &mut g, &mut u,
+            ));
+        },
+        || {
+            black_box(plain::shares(black_box(file), m)).ok();
+        },
+    );
+    compare(
+        &format!("delays, m = {m}"),
+        || {
+            black_box(calls::delays(black_box(file), m, &mut p));
+        },
+        || {
+            black_box(plain::delays(black_box(file), m)).ok();
+        },
+    );
+}
+
+fn forecasting(m: usize, file: &[u8], method: u64, basis: u64) {
+    let (mut out, mut plain_out, mut leftovers) = ([0; 1_560], [0; 1_560], [0; 20]);
+    compare(
+        &format!("forecast {method} {basis}, m = {m}"),
+        || {
+            let file = black_box(file);
+            black_box(calls::forecast(
+                file,
+                m,
+                method,
+                basis,
+                &mut out,
+                &mut leftovers,
+            ));
+        },
+        || {
+            let file = black_box(file);
+            black_box(plain::forecast(file, m, method, basis, &mut plain_out)).ok();
         },
     );
 }

@@ -3,12 +3,15 @@
 use bench::plain;
 use reference::generate::{case, Case};
 use reference::Inflation;
+use std::sync::OnceLock;
 
 const CASES: u64 = 3_000;
 
 fn each_case(compare: impl Fn(u64, &Case)) {
-    for seed in 0..CASES {
-        compare(seed, &case(seed));
+    static MADE: OnceLock<Vec<Case>> = OnceLock::new();
+    let cases = MADE.get_or_init(|| (0..CASES).map(case).collect());
+    for (case, seed) in cases.iter().zip(0..) {
+        compare(seed, case);
     }
 }
 

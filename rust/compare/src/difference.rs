@@ -2,11 +2,11 @@
 
 use std::fmt;
 
-/// A difference: what differs, in which call, and the case, so that it can be replayed.
+/// What differs, and the case, so that it can be replayed.
 #[derive(Debug)]
 pub struct Difference {
-    pub what: String,
-    pub case: String,
+    what: String,
+    case: String,
 }
 
 impl fmt::Display for Difference {
@@ -48,10 +48,4 @@ pub fn same_list<T: PartialEq + fmt::Debug>(
         ),
         None => Ok(()),
     }
-}
-
-/// The arguments of a call on a file, which is shown in hexadecimal.
-pub fn arguments(seed: u64, m: u64, file: &[u8]) -> String {
-    let file: String = file.iter().map(|byte| format!("{byte:02x}")).collect();
-    format!("seed {seed}, m {m}, file {file}")
 }

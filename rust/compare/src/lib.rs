@@ -3,28 +3,33 @@
 //! stay.
 
 mod difference;
-mod reader;
+mod files;
+mod memory;
 mod tally;
 mod writer;
 
 pub use difference::Difference;
 
-/// A comparison of one call: its name, and what it does with a seed. It says whether the call was
-/// accepted.
+use std::collections::BTreeMap;
+
+/// How many cases each call accepted.
+pub type Accepted = BTreeMap<&'static str, u64>;
+
+/// A comparison of one or several calls on the case of a seed.
 pub struct Comparison {
     pub name: &'static str,
-    pub of: fn(u64) -> Result<bool, Difference>,
+    of: fn(u64, &mut Accepted) -> Result<(), Difference>,
 }
 
 /// All comparisons.
 pub const COMPARISONS: [Comparison; 4] = [
     Comparison {
-        name: "reader",
-        of: reader::of_case,
+        name: "files",
+        of: files::of_case,
     },
     Comparison {
-        name: "reader of damaged files",
-        of: reader::of_damaged,
+        name: "damaged files",
+        of: files::of_damaged,
     },
     Comparison {
         name: "writer",
@@ -36,11 +41,13 @@ pub const COMPARISONS: [Comparison; 4] = [
     },
 ];
 
-/// Runs a comparison on seeds, and counts the accepted calls; stops at the first difference.
-pub fn run(comparison: &Comparison, seeds: impl Iterator<Item = u64>) -> Result<u64, Difference> {
-    let mut accepted = 0;
-    for seed in seeds {
-        accepted += u64::from((comparison.of)(seed)?);
+impl Comparison {
+    /// Compares on these seeds, and counts the accepted calls; stops at the first difference.
+    pub fn run(&self, seeds: impl Iterator<Item = u64>) -> Result<Accepted, Difference> {
+        let mut accepted = Accepted::new();
+        for seed in seeds {
+            (self.of)(seed, &mut accepted)?;
+        }
+        Ok(accepted)
     }
-    Ok(accepted)
 }

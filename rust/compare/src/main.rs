@@ -1,7 +1,7 @@
 //! The long comparison: `compare COUNT [FIRST]` runs every comparison on the seeds FIRST (or 0) to
 //! FIRST + COUNT - 1.
 
-use compare::{run, COMPARISONS};
+use compare::COMPARISONS;
 use std::env;
 use std::process::ExitCode;
 
@@ -16,9 +16,9 @@ fn main() -> ExitCode {
         }
     };
     for comparison in &COMPARISONS {
-        match run(comparison, first..first.saturating_add(count)) {
+        match comparison.run(first..first.saturating_add(count)) {
             Ok(accepted) => println!(
-                "{}: {count} the same, {accepted} of them accepted",
+                "{}: {count} the same, accepted {accepted:?}",
                 comparison.name
             ),
             Err(difference) => {

@@ -1,6 +1,7 @@
 //! The writer.
 
 use crate::difference::{same, same_list, Difference};
+use crate::Accepted;
 use pardesul::{calls, Triangle, TriangleSet};
 use reference::generate::{writer_case, Random, WriterCase};
 use reference::records::file_length;
@@ -11,7 +12,7 @@ const AROUND: usize = 16;
 
 /// The set of the seed: the refusal, the records in any order, the bytes past them, and what reads
 /// back.
-pub fn of_case(seed: u64) -> Result<bool, Difference> {
+pub fn of_case(seed: u64, accepted: &mut Accepted) -> Result<(), Difference> {
     let case = writer_case(seed);
     let text = || arguments(seed, &case);
     let m = case.m as usize;
@@ -55,14 +56,16 @@ pub fn of_case(seed: u64) -> Result<bool, Difference> {
     same_list("writer, memory, its records sorted", &memory, &wanted, text)?;
 
     let file = natural(&case).to_file().map_err(|refusal| refusal.number());
-    let accepted = if refusal == 7 { 0 } else { refusal };
+    // An output of the file's own length is long enough.
+    let refusal_of_file = if refusal == 7 { 0 } else { refusal };
     same(
         "TriangleSet::to_file",
         file.err().unwrap_or(0),
-        accepted,
+        refusal_of_file,
         text,
     )?;
-    Ok(refusal == 0)
+    *accepted.entry("write").or_default() += u64::from(refusal == 0);
+    Ok(())
 }
 
 /// Brings the records of a file into the order of their bytes.

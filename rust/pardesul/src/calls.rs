@@ -21,6 +21,32 @@ mod foreign {
             out: *mut u8,
             out_len: usize,
         ) -> u64;
+        pub fn pardesul_shares(
+            file: *const u8,
+            file_len: usize,
+            m: usize,
+            b: *mut [i64; 20],
+            n: *mut [i64; 20],
+            q: *mut [i64; 20],
+            g: *mut [i64; 20],
+            u: *mut [i64; 20],
+        ) -> u64;
+        pub fn pardesul_delays(
+            file: *const u8,
+            file_len: usize,
+            m: usize,
+            p: *mut [i64; 20],
+        ) -> u64;
+        pub fn pardesul_forecast(
+            file: *const u8,
+            file_len: usize,
+            m: usize,
+            method: u64,
+            basis: u64,
+            out: *mut i64,
+            out_len: usize,
+            leftovers: *mut [i64; 20],
+        ) -> u64;
         pub fn pardesul_tally_add(
             rbns: *mut [i64; 38],
             ibnr: *mut [i64; 38],
@@ -85,6 +111,78 @@ pub fn write_set(
             incurred,
             out.as_mut_ptr(),
             out.len(),
+        )
+    }
+}
+
+/// Shares and ultimates: b and N of counts; q, g and U of paid. Delay j stands at place j, year i at
+/// place i - 1, and zeros in the other places.
+///
+/// ```
+/// use pardesul::calls::shares;
+///
+/// let [mut b, mut n, mut q, mut g, mut u] = [[9; 20]; 5];
+/// assert_eq!(shares(&[], 2, &mut b, &mut n, &mut q, &mut g, &mut u), 2);
+/// assert_eq!([b, n, q, g, u], [[9; 20]; 5]);
+/// ```
+pub fn shares(
+    file: &[u8],
+    m: usize,
+    b: &mut [i64; 20],
+    n: &mut [i64; 20],
+    q: &mut [i64; 20],
+    g: &mut [i64; 20],
+    u: &mut [i64; 20],
+) -> u64 {
+    // SAFETY: as above.
+    unsafe { foreign::pardesul_shares(file.as_ptr(), file.len(), m, b, n, q, g, u) }
+}
+
+/// The delays: p(l) at place l, and zeros in the other places.
+///
+/// ```
+/// use pardesul::calls::delays;
+///
+/// let mut p = [9; 20];
+/// assert_eq!(delays(&[], 2, &mut p), 2);
+/// assert_eq!(p, [9; 20]);
+/// ```
+pub fn delays(file: &[u8], m: usize, p: &mut [i64; 20]) -> u64 {
+    // SAFETY: as above.
+    unsafe { foreign::pardesul_delays(file.as_ptr(), file.len(), m, p) }
+}
+
+/// The forecast: 2m(2m-1) entries at the front of `out`, where those past them stay, and the left
+/// over of year i at place i - 1. Entry 2 × ((i-1) × (2m-1) + j) is RBNS of year i at delay j, the
+/// next one IBNR. Methods 0 DCL, 1 BDCL, 2 IDCL; bases 0 actual, 1 estimated counts.
+///
+/// ```
+/// use pardesul::calls::forecast;
+///
+/// let (mut out, mut leftovers) = ([9; 12], [9; 20]);
+/// assert_eq!(forecast(&[], 2, 0, 1, &mut out, &mut leftovers), 2);
+/// assert_eq!((out, leftovers), ([9; 12], [9; 20]));
+/// ```
+pub fn forecast(
+    file: &[u8],
+    m: usize,
+    method: u64,
+    basis: u64,
+    out: &mut [i64],
+    leftovers: &mut [i64; 20],
+) -> u64 {
+    let (len, room) = (file.len(), out.len());
+    // SAFETY: as above.
+    unsafe {
+        foreign::pardesul_forecast(
+            file.as_ptr(),
+            len,
+            m,
+            method,
+            basis,
+            out.as_mut_ptr(),
+            room,
+            leftovers,
         )
     }
 }

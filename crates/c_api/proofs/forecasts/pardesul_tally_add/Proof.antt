@@ -3,8 +3,8 @@ use borrow.Author.Needs.{needs}
 use mathlib.Core.Path.{ap}
 use mir.Facts.{toZ-ofZ}
 use Rattle.model.specs.declared.Tally.{Tally}
-use Rattle.c_api.proofs.pardesul_tally_add.Statement.{statement}
-use Rattle.c_api.proofs.pardesul_tally_add.Tie as tie
+use Rattle.c_api.proofs.forecasts.pardesul_tally_add.Statement.{statement}
+use Rattle.c_api.proofs.forecasts.pardesul_tally_add.Tie as tie
 
 add-requires : tie.Need-add-requires
 add-requires c κs = search needs

@@ -5,8 +5,8 @@ use mathlib.Core.Path.{_≡_, refl, sym, ap, _∙_}
 use mathlib.Core.Bool.{Bool, true, false, cond}
 use mir.Val.{boolByte}
 use Rattle.model.specs.declared.ReadAnswer.{ReadAnswer}
-use Rattle.c_api.proofs.pardesul_read_set.Statement.{statement}
-use Rattle.c_api.proofs.pardesul_read_set.Tie as tie
+use Rattle.c_api.proofs.sets.pardesul_read_set.Statement.{statement}
+use Rattle.c_api.proofs.sets.pardesul_read_set.Tie as tie
 
 as-number : (t : Bool) → boolByte t ≡ cond t 1 0
 as-number true = refl

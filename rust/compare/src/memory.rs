@@ -55,3 +55,33 @@ impl Memory {
         same_list(&format!("{what}, memory"), &self.now, &wanted, case)
     }
 }
+
+#[cfg(test)]
+mod tests {
+    use super::Memory;
+
+    fn differs(memory: &Memory, handed_back: Option<&[&[i64]]>) -> bool {
+        memory.holds("test", handed_back, String::new).is_err()
+    }
+
+    #[test]
+    fn lists_are_lent_and_looked_at() {
+        let mut memory = Memory::new(1, &[3, 2]);
+        assert!(!differs(&memory, None));
+        let [first, second] = memory.lists();
+        first[..2].copy_from_slice(&[7, 8]);
+        second[0] = 9;
+        assert!(!differs(&memory, Some(&[&[7, 8], &[9]])));
+        assert!(differs(&memory, None));
+        assert!(differs(&memory, Some(&[&[7, 8], &[8]])));
+    }
+
+    #[test]
+    fn words_around_the_lists_have_to_stay() {
+        for at in [3, 7, 10, 13, 16] {
+            let mut memory = Memory::new(2, &[3, 2]);
+            memory.now[at] ^= 1;
+            assert!(differs(&memory, None), "word {at}");
+        }
+    }
+}

@@ -1,0 +1,55 @@
+// Shares, ultimates and delays.
+ghost use mathlib.Core.Path.{_≡_};
+ghost use Rattle.model.specs.Calls.{ifAccepted, sharesAnswer, delaysAnswer};
+
+// Shares and ultimates: b and N of counts; q, g and U of paid. Delay j stands at place j, year i at place i - 1.
+#[no_mangle]
+pub extern "C" fn pardesul_shares(
+    file: &[u8],
+    m: usize,
+    b: &mut [i64; 20],
+    n: &mut [i64; 20],
+    q: &mut [i64; 20],
+    g: &mut [i64; 20],
+    u: &mut [i64; 20],
+) -> u64
+    ensures { λ r. ⌜ r ≡ sharesAnswer m (now (file .entry)) .refusal ⌝ }
+    ensures { λ r. ⌜ now (b .exit) ≡ ifAccepted r (sharesAnswer m (now (file .entry)) .b) (now (b .entry)) ⌝ }
+    ensures { λ r. ⌜ now (n .exit) ≡ ifAccepted r (sharesAnswer m (now (file .entry)) .n) (now (n .entry)) ⌝ }
+    ensures { λ r. ⌜ now (q .exit) ≡ ifAccepted r (sharesAnswer m (now (file .entry)) .q) (now (q .entry)) ⌝ }
+    ensures { λ r. ⌜ now (g .exit) ≡ ifAccepted r (sharesAnswer m (now (file .entry)) .g) (now (g .entry)) ⌝ }
+    ensures { λ r. ⌜ now (u .exit) ≡ ifAccepted r (sharesAnswer m (now (file .entry)) .u) (now (u .entry)) ⌝ }
+{
+    let answer = chain_ladder::shares(file, m);
+    let refusal = answer.refusal;
+    if refusal != 0 {
+        return refusal;
+    }
+    let list = answer.b;
+    *b = list;
+    let list = answer.n;
+    *n = list;
+    let list = answer.q;
+    *q = list;
+    let list = answer.g;
+    *g = list;
+    let list = answer.u;
+    *u = list;
+    0
+}
+
+// The delays, p(l) at place l.
+#[no_mangle]
+pub extern "C" fn pardesul_delays(file: &[u8], m: usize, p: &mut [i64; 20]) -> u64
+    ensures { λ r. ⌜ r ≡ delaysAnswer m (now (file .entry)) .refusal ⌝ }
+    ensures { λ r. ⌜ now (p .exit) ≡ ifAccepted r (delaysAnswer m (now (file .entry)) .p) (now (p .entry)) ⌝ }
+{
+    let answer = delays::delays(file, m);
+    let refusal = answer.refusal;
+    if refusal != 0 {
+        return refusal;
+    }
+    let list = answer.p;
+    *p = list;
+    0
+}

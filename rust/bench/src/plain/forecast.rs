@@ -1,0 +1,73 @@
+//! Cell forecasts.
+
+use super::delays::solve;
+use super::row_bases::row_bases;
+use super::shares::{estimates, Estimates};
+use super::{nearest, read_set, Set, SCALE};
+
+/// Question 6.
+pub fn question_6(set: &Set, method: u64, basis: u64) -> Result<(), u64> {
+    if method > 2 || basis > 1 || (method > 0 && !set.three) {
+        return Err(6);
+    }
+    Ok(())
+}
+
+/// s(k) of year i, k from 0 to m - i.
+fn reported_shares(set: &Set, estimates: &Estimates, i: usize, basis: u64) -> [i64; 20] {
+    if basis == 1 {
+        return estimates.shares.b;
+    }
+    let counts = &set.triangles[0][20 * (i - 1)..20 * i];
+    let (g, latest) = (estimates.count_g[set.m - i], estimates.counts.latest[i - 1]);
+    let mut shares = [0; 20];
+    for k in 0..=set.m - i {
+        shares[k] = nearest(i128::from(counts[k]) * i128::from(g), i128::from(latest)) as i64;
+    }
+    shares
+}
+
+/// r(V × sum of share(k) × p(j-k) / S²) over delays k from `from` to `to`.
+fn cell(v: i64, share: &[i64; 20], p: &[i64; 20], j: usize, from: usize, to: usize) -> i64 {
+    let sum: i128 = (from..=to)
+        .map(|k| i128::from(share[k]) * i128::from(p[j - k]))
+        .sum();
+    nearest(i128::from(v) * sum, SCALE * SCALE) as i64
+}
+
+/// Questions 9 to 14, the entries at the front of `out`, and the left overs.
+pub fn forecast_set(set: &Set, method: u64, basis: u64, out: &mut [i64]) -> Result<[i64; 20], u64> {
+    let m = set.m;
+    let estimates = estimates(set)?;
+    let p = solve(m, &estimates.shares)?;
+    let bases = row_bases(set, &estimates, method)?;
+    let width = 2 * (2 * m - 1);
+    for (i, row) in (1..=m).zip(out.chunks_exact_mut(width)) {
+        let v = bases.v[i - 1];
+        let s = reported_shares(set, &estimates, i, basis);
+        row.fill(0);
+        for j in m - i + 1..=2 * m - 2 {
+            let (first, last) = (j.saturating_sub(m - 1), j.min(m - 1));
+            row[2 * j] = cell(v, &s, &p, j, first, last.min(m - i));
+            row[2 * j + 1] = cell(v, &estimates.shares.b, &p, j, first.max(m - i + 1), last);
+        }
+    }
+    Ok(bases.leftovers)
+}
+
+/// The forecast of a file: questions 1 to 7 and 9 to 14.
+pub fn forecast(
+    file: &[u8],
+    m: usize,
+    method: u64,
+    basis: u64,
+    out: &mut [i64],
+) -> Result<[i64; 20], u64> {
+    let set = read_set(file, m)?;
+    question_6(&set, method, basis)?;
+    let entries = 2 * m * (2 * m - 1);
+    if out.len() < entries {
+        return Err(7);
+    }
+    forecast_set(&set, method, basis, &mut out[..entries])
+}

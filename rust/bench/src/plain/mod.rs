@@ -1,0 +1,29 @@
+//! Document 01 in plain Rust with 128-bit numbers, a module for each of its sections. It asks the
+//! same questions in the same order.
+
+mod back_test;
+mod claim_costs;
+mod delays;
+mod forecast;
+mod records;
+mod row_bases;
+mod shares;
+
+pub use back_test::{back_test, BackTest};
+pub use claim_costs::{claim_costs, ClaimCosts, Inflation};
+pub use delays::delays;
+pub use forecast::forecast;
+pub use records::{read_set, Set};
+pub use shares::{shares, Shares};
+
+/// S.
+const SCALE: i128 = 1_000_000_000;
+
+/// The nearest whole number to a / b, with b above zero; halves go away from zero.
+fn nearest(a: i128, b: i128) -> i128 {
+    if a < 0 {
+        -((b / 2 - a) / b)
+    } else {
+        (a + b / 2) / b
+    }
+}

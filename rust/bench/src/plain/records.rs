@@ -1,0 +1,67 @@
+//! Triangle records: the reader.
+
+use std::mem::replace;
+use std::ops::RangeInclusive;
+
+/// The triangles of a set, counts, paid and incurred; cell (i,j) at 20 × (i-1) + j.
+pub struct Set {
+    pub m: usize,
+    pub three: bool,
+    pub triangles: [[i64; 400]; 3],
+}
+
+const RANGES: [RangeInclusive<i64>; 3] = [
+    0..=10_000_000,
+    0..=10_000_000_000,
+    -10_000_000_000..=10_000_000_000,
+];
+
+fn kind(record: &[u8]) -> usize {
+    usize::from(record[0])
+}
+
+fn place(record: &[u8]) -> usize {
+    20 * (usize::from(record[1]) - 1) + usize::from(record[2])
+}
+
+fn value(record: &[u8]) -> i64 {
+    i64::from_le_bytes(record[8..16].try_into().unwrap())
+}
+
+fn is_well_formed(record: &[u8], m: usize, kinds: usize) -> bool {
+    let (year, delay) = (usize::from(record[1]), usize::from(record[2]));
+    kind(record) < kinds && year >= 1 && year + delay <= m && record[3..8] == [0; 5]
+}
+
+/// Questions 1 to 5, and the set.
+pub fn read_set(file: &[u8], m: usize) -> Result<Set, u64> {
+    if !(2..=20).contains(&m) {
+        return Err(1);
+    }
+    let three = file.len() == 24 * m * (m + 1);
+    if !three && file.len() != 16 * m * (m + 1) {
+        return Err(2);
+    }
+    let kinds = if three { 3 } else { 2 };
+    let records = || file.chunks_exact(16);
+    if !records().all(|record| is_well_formed(record, m, kinds)) {
+        return Err(3);
+    }
+    // There are as many records as cells, so each cell is there once where none is there twice.
+    let mut seen = [[false; 400]; 3];
+    if records().any(|record| replace(&mut seen[kind(record)][place(record)], true)) {
+        return Err(4);
+    }
+    if !records().all(|record| RANGES[kind(record)].contains(&value(record))) {
+        return Err(5);
+    }
+    let mut triangles = [[0; 400]; 3];
+    for record in records() {
+        triangles[kind(record)][place(record)] = value(record);
+    }
+    Ok(Set {
+        m,
+        three,
+        triangles,
+    })
+}

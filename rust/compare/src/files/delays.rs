@@ -1,0 +1,34 @@
+//! The delays.
+
+use super::{arguments, fixed};
+use crate::difference::{same, Difference};
+use crate::memory::Memory;
+use pardesul::calls;
+use reference::generate::Case;
+
+pub fn compare(seed: u64, case: &Case) -> Result<bool, Difference> {
+    let text = || arguments(seed, case);
+    let (file, m) = (&case.file, case.m as usize);
+    let wanted = reference::delays(file, case.m);
+
+    let mut memory = Memory::new(seed, &[20]);
+    let [p] = memory.lists().map(fixed);
+    let refusal = calls::delays(file, m, p);
+    same(
+        "delays, refusal",
+        Some(refusal).filter(|&n| n != 0),
+        wanted.err(),
+        text,
+    )?;
+    let list = wanted.as_ref().ok().map(|p| [&p[..]]);
+    memory.holds("delays", list.as_ref().map(|list| &list[..]), text)?;
+
+    let natural = pardesul::delays(file, m).map_err(|refusal| refusal.number());
+    same(
+        "pardesul::delays",
+        natural,
+        wanted.map(|p| p[..m].to_vec()),
+        text,
+    )?;
+    Ok(refusal == 0)
+}

@@ -1,0 +1,70 @@
+//! The calls that take a file.
+
+mod delays;
+mod forecast;
+mod reader;
+mod shares;
+
+use crate::{Accepted, Difference};
+use reference::generate::{any_set, case, shuffled_file, Case, Random};
+
+/// A call on a case; says whether it was accepted.
+type Call = fn(u64, &Case) -> Result<bool, Difference>;
+
+const CALLS: [(&str, Call); 4] = [
+    ("read", reader::compare),
+    ("shares", shares::compare),
+    ("delays", delays::compare),
+    ("forecast", forecast::compare),
+];
+
+fn compare(seed: u64, case: &Case, accepted: &mut Accepted) -> Result<(), Difference> {
+    for (name, call) in CALLS {
+        *accepted.entry(name).or_default() += u64::from(call(seed, case)?);
+    }
+    Ok(())
+}
+
+/// Every call on the seed's case.
+pub fn of_case(seed: u64, accepted: &mut Accepted) -> Result<(), Difference> {
+    compare(seed, &case(seed), accepted)
+}
+
+/// Every call on the file of any set with bytes changed, dropped or added at random.
+pub fn of_damaged(seed: u64, accepted: &mut Accepted) -> Result<(), Difference> {
+    let mut random = Random::new(seed);
+    let set = any_set(&mut random);
+    let mut file = shuffled_file(&mut random, &set);
+    for _ in 0..random.between(1, 3) {
+        let (at, any) = (random.below(file.len() + 1), random.number() as u8);
+        match random.below(16) {
+            0 => file.insert(at, any),
+            1 => file.truncate(at),
+            _ if at < file.len() => {
+                file[at] = random.pick(&[0, 1, 2, 3, 20, 21, 127, 128, 255, any])
+            }
+            _ => {}
+        }
+    }
+    let case = Case {
+        m: set.m as u64,
+        file,
+        method: random.below(3) as u64,
+        basis: random.below(2) as u64,
+        out_len: 1_560,
+        cut: 1,
+    };
+    compare(seed, &case, accepted)
+}
+
+/// The arguments of a case; the file in hexadecimal.
+fn arguments(seed: u64, case: &Case) -> String {
+    let file: String = case.file.iter().map(|byte| format!("{byte:02x}")).collect();
+    let (m, method, basis, cut, room) = (case.m, case.method, case.basis, case.cut, case.out_len);
+    format!("seed {seed}, m {m}, method {method}, basis {basis}, cut {cut}, output of {room}, file {file}")
+}
+
+/// A list of fixed size.
+fn fixed<const N: usize>(list: &mut [i64]) -> &mut [i64; N] {
+    list.try_into().expect("a list of that length")
+}

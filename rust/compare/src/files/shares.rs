@@ -1,0 +1,40 @@
+//! Shares and ultimates.
+
+use super::{arguments, fixed};
+use crate::difference::{same, Difference};
+use crate::memory::Memory;
+use pardesul::{calls, Shares};
+use reference::generate::Case;
+
+pub fn compare(seed: u64, case: &Case) -> Result<bool, Difference> {
+    let text = || arguments(seed, case);
+    let (file, m) = (&case.file, case.m as usize);
+    let wanted = reference::shares(file, case.m);
+
+    let mut memory = Memory::new(seed, &[20; 5]);
+    let [b, n, q, g, u] = memory.lists().map(fixed);
+    let refusal = calls::shares(file, m, b, n, q, g, u);
+    same(
+        "shares, refusal",
+        Some(refusal).filter(|&n| n != 0),
+        wanted.as_ref().err().copied(),
+        text,
+    )?;
+    let lists = wanted
+        .as_ref()
+        .ok()
+        .map(|of| [&of.b[..], &of.n, &of.q, &of.g, &of.u]);
+    memory.holds("shares", lists.as_ref().map(|lists| &lists[..]), text)?;
+
+    let natural = pardesul::shares(file, m).map_err(|refusal| refusal.number());
+    let first = |list: &[i64; 20]| list[..m].to_vec();
+    let wanted = wanted.map(|of| Shares {
+        b: first(&of.b),
+        n: first(&of.n),
+        q: first(&of.q),
+        g: first(&of.g),
+        u: first(&of.u),
+    });
+    same("pardesul::shares", natural, wanted, text)?;
+    Ok(refusal == 0)
+}

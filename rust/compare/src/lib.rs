@@ -1,0 +1,53 @@
+//! Every call of the library against the independent calculation of `reference`, bit for bit: each
+//! case follows from its seed, and the memory that a call is lent stands between words that have to
+//! stay.
+
+mod difference;
+mod files;
+mod memory;
+mod tally;
+mod writer;
+
+pub use difference::Difference;
+
+use std::collections::BTreeMap;
+
+/// How many cases each call accepted.
+pub type Accepted = BTreeMap<&'static str, u64>;
+
+/// A comparison of one or several calls on the case of a seed.
+pub struct Comparison {
+    pub name: &'static str,
+    of: fn(u64, &mut Accepted) -> Result<(), Difference>,
+}
+
+/// All comparisons.
+pub const COMPARISONS: [Comparison; 4] = [
+    Comparison {
+        name: "files",
+        of: files::of_case,
+    },
+    Comparison {
+        name: "damaged files",
+        of: files::of_damaged,
+    },
+    Comparison {
+        name: "writer",
+        of: writer::of_case,
+    },
+    Comparison {
+        name: "tally",
+        of: tally::of_case,
+    },
+];
+
+impl Comparison {
+    /// Compares on these seeds, and counts the accepted calls; stops at the first difference.
+    pub fn run(&self, seeds: impl Iterator<Item = u64>) -> Result<Accepted, Difference> {
+        let mut accepted = Accepted::new();
+        for seed in seeds {
+            (self.of)(seed, &mut accepted)?;
+        }
+        Ok(accepted)
+    }
+}

@@ -1,0 +1,31 @@
+//! The long comparison: `compare COUNT [FIRST]` runs every comparison on the seeds FIRST (or 0) to
+//! FIRST + COUNT - 1.
+
+use compare::COMPARISONS;
+use std::env;
+use std::process::ExitCode;
+
+fn main() -> ExitCode {
+    let numbers: Option<Vec<u64>> = env::args().skip(1).map(|word| word.parse().ok()).collect();
+    let (count, first) = match numbers.as_deref() {
+        Some([count]) => (*count, 0),
+        Some([count, first]) => (*count, *first),
+        _ => {
+            eprintln!("usage: compare COUNT [FIRST]");
+            return ExitCode::FAILURE;
+        }
+    };
+    for comparison in &COMPARISONS {
+        match comparison.run(first..first.saturating_add(count)) {
+            Ok(accepted) => println!(
+                "{}: {count} the same, accepted {accepted:?}",
+                comparison.name
+            ),
+            Err(difference) => {
+                println!("{}: {difference}", comparison.name);
+                return ExitCode::FAILURE;
+            }
+        }
+    }
+    ExitCode::SUCCESS
+}

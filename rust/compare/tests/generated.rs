@@ -1,0 +1,51 @@
+//! Every comparison on a few thousand generated cases.
+
+use compare::COMPARISONS;
+
+const CASES: u64 = 3_000;
+
+/// The comparison of this name, in which each of these calls accepted at least so many cases and
+/// refused at least as many as it names.
+fn the_same(name: &str, calls: &[(&str, u64, u64)]) {
+    let comparison = COMPARISONS
+        .iter()
+        .find(|comparison| comparison.name == name);
+    match comparison.unwrap().run(0..CASES) {
+        Ok(accepted) => {
+            for &(call, least, refused) in calls {
+                let count = accepted[call];
+                assert!(
+                    count >= least && CASES - count >= refused,
+                    "{call}: {count} accepted"
+                );
+            }
+        }
+        Err(difference) => panic!("{difference}"),
+    }
+}
+
+#[test]
+fn files() {
+    let calls = [
+        ("read", 2_000, 500),
+        ("shares", 1_500, 700),
+        ("delays", 1_000, 700),
+        ("forecast", 800, 900),
+    ];
+    the_same("files", &calls);
+}
+
+#[test]
+fn damaged_files() {
+    the_same("damaged files", &[("read", 200, 2_000)]);
+}
+
+#[test]
+fn writer() {
+    the_same("writer", &[("write", 2_000, 200)]);
+}
+
+#[test]
+fn tally() {
+    the_same("tally", &[]);
+}

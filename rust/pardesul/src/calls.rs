@@ -1,0 +1,210 @@
+//! The calls of the static library over lent memory, one function for each. The answer is the
+//! refusal number, 0 where the call is accepted; a refusal leaves lent memory as it was.
+
+mod foreign {
+    extern "C" {
+        pub fn pardesul_read_set(
+            file: *const u8,
+            file_len: usize,
+            m: usize,
+            three: *mut u8,
+            counts: *mut [i64; 400],
+            paid: *mut [i64; 400],
+            incurred: *mut [i64; 400],
+        ) -> u64;
+        pub fn pardesul_write_set(
+            m: usize,
+            three: bool,
+            counts: *const [i64; 400],
+            paid: *const [i64; 400],
+            incurred: *const [i64; 400],
+            out: *mut u8,
+            out_len: usize,
+        ) -> u64;
+        pub fn pardesul_shares(
+            file: *const u8,
+            file_len: usize,
+            m: usize,
+            b: *mut [i64; 20],
+            n: *mut [i64; 20],
+            q: *mut [i64; 20],
+            g: *mut [i64; 20],
+            u: *mut [i64; 20],
+        ) -> u64;
+        pub fn pardesul_delays(
+            file: *const u8,
+            file_len: usize,
+            m: usize,
+            p: *mut [i64; 20],
+        ) -> u64;
+        pub fn pardesul_forecast(
+            file: *const u8,
+            file_len: usize,
+            m: usize,
+            method: u64,
+            basis: u64,
+            out: *mut i64,
+            out_len: usize,
+            leftovers: *mut [i64; 20],
+        ) -> u64;
+        pub fn pardesul_tally_add(
+            rbns: *mut [i64; 38],
+            ibnr: *mut [i64; 38],
+            year: u64,
+            reported: i64,
+            unreported: i64,
+        );
+    }
+}
+
+/// The set of a file: each triangle with cell (i,j) at 20 × (i-1) + j and zeros elsewhere, and
+/// `three`, 1 where incurred is there, else 0.
+///
+/// ```
+/// use pardesul::calls::read_set;
+///
+/// let (mut three, mut counts, mut paid, mut incurred) = (9, [9; 400], [9; 400], [9; 400]);
+/// assert_eq!(read_set(&[], 21, &mut three, &mut counts, &mut paid, &mut incurred), 1);
+/// assert_eq!((three, counts, paid, incurred), (9, [9; 400], [9; 400], [9; 400]));
+/// ```
+pub fn read_set(
+    file: &[u8],
+    m: usize,
+    three: &mut u8,
+    counts: &mut [i64; 400],
+    paid: &mut [i64; 400],
+    incurred: &mut [i64; 400],
+) -> u64 {
+    // SAFETY: the pointers are of references, which are valid and, where they are written through,
+    // unshared.
+    unsafe {
+        foreign::pardesul_read_set(file.as_ptr(), file.len(), m, three, counts, paid, incurred)
+    }
+}
+
+/// Writes a set's file to the front of `out`, in an order of the library's own; the bytes past it
+/// stay. `three` says whether incurred is there.
+///
+/// ```
+/// use pardesul::calls::write_set;
+///
+/// let mut out = [9; 100];
+/// assert_eq!(write_set(2, false, &[1; 400], &[1; 400], &[0; 400], &mut out), 0);
+/// assert_eq!(out[96..], [9; 4]);
+/// assert_eq!(write_set(2, true, &[1; 400], &[1; 400], &[0; 400], &mut out), 7);
+/// ```
+pub fn write_set(
+    m: usize,
+    three: bool,
+    counts: &[i64; 400],
+    paid: &[i64; 400],
+    incurred: &[i64; 400],
+    out: &mut [u8],
+) -> u64 {
+    // SAFETY: as above.
+    unsafe {
+        foreign::pardesul_write_set(
+            m,
+            three,
+            counts,
+            paid,
+            incurred,
+            out.as_mut_ptr(),
+            out.len(),
+        )
+    }
+}
+
+/// Shares and ultimates: b and N of counts; q, g and U of paid. Delay j stands at place j, year i at
+/// place i - 1, and zeros in the other places.
+///
+/// ```
+/// use pardesul::calls::shares;
+///
+/// let [mut b, mut n, mut q, mut g, mut u] = [[9; 20]; 5];
+/// assert_eq!(shares(&[], 2, &mut b, &mut n, &mut q, &mut g, &mut u), 2);
+/// assert_eq!([b, n, q, g, u], [[9; 20]; 5]);
+/// ```
+pub fn shares(
+    file: &[u8],
+    m: usize,
+    b: &mut [i64; 20],
+    n: &mut [i64; 20],
+    q: &mut [i64; 20],
+    g: &mut [i64; 20],
+    u: &mut [i64; 20],
+) -> u64 {
+    // SAFETY: as above.
+    unsafe { foreign::pardesul_shares(file.as_ptr(), file.len(), m, b, n, q, g, u) }
+}
+
+/// The delays: p(l) at place l, and zeros in the other places.
+///
+/// ```
+/// use pardesul::calls::delays;
+///
+/// let mut p = [9; 20];
+/// assert_eq!(delays(&[], 2, &mut p), 2);
+/// assert_eq!(p, [9; 20]);
+/// ```
+pub fn delays(file: &[u8], m: usize, p: &mut [i64; 20]) -> u64 {
+    // SAFETY: as above.
+    unsafe { foreign::pardesul_delays(file.as_ptr(), file.len(), m, p) }
+}
+
+/// The forecast: 2m(2m-1) entries at the front of `out`, where those past them stay, and the left
+/// over of year i at place i - 1. Entry 2 × ((i-1) × (2m-1) + j) is RBNS of year i at delay j, the
+/// next one IBNR. Methods 0 DCL, 1 BDCL, 2 IDCL; bases 0 actual, 1 estimated counts.
+///
+/// ```
+/// use pardesul::calls::forecast;
+///
+/// let (mut out, mut leftovers) = ([9; 12], [9; 20]);
+/// assert_eq!(forecast(&[], 2, 0, 1, &mut out, &mut leftovers), 2);
+/// assert_eq!((out, leftovers), ([9; 12], [9; 20]));
+/// ```
+pub fn forecast(
+    file: &[u8],
+    m: usize,
+    method: u64,
+    basis: u64,
+    out: &mut [i64],
+    leftovers: &mut [i64; 20],
+) -> u64 {
+    let (len, room) = (file.len(), out.len());
+    // SAFETY: as above.
+    unsafe {
+        foreign::pardesul_forecast(
+            file.as_ptr(),
+            len,
+            m,
+            method,
+            basis,
+            out.as_mut_ptr(),
+            room,
+            leftovers,
+        )
+    }
+}
+
+/// Adds a cell to the sums of its calendar year, which stands at place `year` - 1. A year outside 1
+/// to 38, or a sum past 64 bits, changes nothing.
+///
+/// ```
+/// use pardesul::calls::tally_add;
+///
+/// let (mut rbns, mut ibnr) = ([0; 38], [0; 38]);
+/// tally_add(&mut rbns, &mut ibnr, 1, 275, 165);
+/// tally_add(&mut rbns, &mut ibnr, 39, 1, 1);
+/// assert_eq!((rbns[0], ibnr[0]), (275, 165));
+/// ```
+pub fn tally_add(
+    rbns: &mut [i64; 38],
+    ibnr: &mut [i64; 38],
+    year: u64,
+    reported: i64,
+    unreported: i64,
+) {
+    // SAFETY: as above.
+    unsafe { foreign::pardesul_tally_add(rbns, ibnr, year, reported, unreported) }
+}

@@ -1,0 +1,97 @@
+//! The forecast.
+
+use crate::{calls, Refusal, Tally};
+
+/// What the rows are based on.
+#[derive(Clone, Copy, Debug, PartialEq, Eq)]
+pub enum Method {
+    /// Double chain ladder: paid ultimates.
+    Dcl = 0,
+    /// Bornhuetter-Ferguson double chain ladder: paid ultimates with the inflation of incurred.
+    Bdcl = 1,
+    /// Incurred double chain ladder: paid ultimates with the reserves of incurred.
+    Idcl = 2,
+}
+
+/// The counts behind the RBNS cells.
+#[derive(Clone, Copy, Debug, PartialEq, Eq)]
+pub enum Basis {
+    Actual = 0,
+    Estimated = 1,
+}
+
+/// The forecast of a file by accident year and delay.
+#[derive(Clone, Debug, PartialEq, Eq)]
+pub struct Forecast {
+    m: usize,
+    entries: Vec<i64>,
+    /// What [`Method::Idcl`] leaves over, year 1 first: zero but for a year whose paid reserve is zero.
+    pub leftovers: Vec<i64>,
+}
+
+impl Forecast {
+    /// Reported but not settled, of accident year `year` from 1 on at `delay` from 0 on.
+    ///
+    /// # Panics
+    /// Where the year is not 1 to m or the delay not 0 to 2m - 2.
+    pub fn rbns(&self, year: usize, delay: usize) -> i64 {
+        self.entries[self.place(year, delay)]
+    }
+
+    /// Incurred but not reported.
+    ///
+    /// # Panics
+    /// As [`Forecast::rbns`] does.
+    pub fn ibnr(&self, year: usize, delay: usize) -> i64 {
+        self.entries[self.place(year, delay) + 1]
+    }
+
+    /// All entries: RBNS of year i at delay j at 2 × ((i-1) × (2m-1) + j), and IBNR after it.
+    pub fn entries(&self) -> &[i64] {
+        &self.entries
+    }
+
+    /// The sums by calendar year.
+    pub fn tally(&self) -> Tally {
+        let mut tally = Tally::zero();
+        for year in 1..=self.m {
+            for delay in self.m - year + 1..=2 * self.m - 2 {
+                let calendar_year = (year + delay - self.m) as u64;
+                tally = tally.add(
+                    calendar_year,
+                    self.rbns(year, delay),
+                    self.ibnr(year, delay),
+                );
+            }
+        }
+        tally
+    }
+
+    fn place(&self, year: usize, delay: usize) -> usize {
+        let width = 2 * self.m - 1;
+        assert!(
+            (1..=self.m).contains(&year) && delay < width,
+            "accident year {year}, delay {delay}"
+        );
+        2 * ((year - 1) * width + delay)
+    }
+}
+
+/// The forecast of a file. Refuses with 1 to 6 and 9 to 14.
+pub fn forecast(file: &[u8], m: usize, method: Method, basis: Basis) -> Result<Forecast, Refusal> {
+    let (mut entries, mut leftovers) = (vec![0; 1_560], [0; 20]);
+    Refusal::of(calls::forecast(
+        file,
+        m,
+        method as u64,
+        basis as u64,
+        &mut entries,
+        &mut leftovers,
+    ))?;
+    entries.truncate(2 * m * (2 * m - 1));
+    Ok(Forecast {
+        m,
+        entries,
+        leftovers: leftovers[..m].to_vec(),
+    })
+}

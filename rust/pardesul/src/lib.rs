@@ -1,0 +1,55 @@
+//! Claims reserving for closing accounts, from Rust: a safe crate over the proved library.
+//!
+//! A set of run-off triangles is read from a file and written to one:
+//!
+//! ```
+//! use pardesul::{Triangle, TriangleSet};
+//!
+//! let set = TriangleSet {
+//!     m: 2,
+//!     counts: Triangle::from_rows(&[&[80, 20], &[90]]),
+//!     paid: Triangle::from_rows(&[&[600, 400], &[660]]),
+//!     incurred: None,
+//! };
+//! let file = set.to_file()?;
+//! assert_eq!(file.len(), 96);
+//! assert_eq!(TriangleSet::read(&file, 2)?, set);
+//!
+//! let refusal = TriangleSet::read(&file, 3).unwrap_err();
+//! assert_eq!(refusal.number(), 2);
+//! # Ok::<(), pardesul::Refusal>(())
+//! ```
+//!
+//! and forecast, split into RBNS and IBNR:
+//!
+//! ```
+//! use pardesul::{forecast, Basis, Method};
+//! # use pardesul::{Triangle, TriangleSet};
+//! # let set = TriangleSet {
+//! #     m: 2,
+//! #     counts: Triangle::from_rows(&[&[80, 20], &[90]]),
+//! #     paid: Triangle::from_rows(&[&[600, 400], &[660]]),
+//! #     incurred: None,
+//! # };
+//! # let file = set.to_file()?;
+//!
+//! let forecast = forecast(&file, 2, Method::Dcl, Basis::Estimated)?;
+//! assert_eq!((forecast.rbns(2, 1), forecast.ibnr(2, 1)), (275, 165));
+//! assert_eq!(forecast.tally().rbns[0], 338);
+//! # Ok::<(), pardesul::Refusal>(())
+//! ```
+//!
+//! [`calls`] has the calls themselves, over memory that the caller lends.
+
+pub mod calls;
+mod forecast;
+mod refusal;
+mod shares;
+mod tally;
+mod triangles;
+
+pub use forecast::{forecast, Basis, Forecast, Method};
+pub use refusal::Refusal;
+pub use shares::{delays, shares, Shares};
+pub use tally::Tally;
+pub use triangles::{Triangle, TriangleSet};

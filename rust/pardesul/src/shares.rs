@@ -1,0 +1,57 @@
+//! Shares, ultimates and delays.
+
+use crate::{calls, Refusal};
+
+/// Shares in billionths by delay, and ultimates by accident year: each list has m numbers.
+#[derive(Clone, Debug, PartialEq, Eq)]
+pub struct Shares {
+    /// Shares of counts by reporting delay.
+    pub b: Vec<i64>,
+    /// Ultimate counts, year 1 first.
+    pub n: Vec<i64>,
+    /// Shares of payments by delay.
+    pub q: Vec<i64>,
+    /// The same up to each delay.
+    pub g: Vec<i64>,
+    /// Ultimate payments, year 1 first.
+    pub u: Vec<i64>,
+}
+
+/// The chain ladder of counts and paid of a file. Refuses with 1 to 5 and 9 to 11.
+///
+/// ```
+/// use pardesul::{shares, Triangle, TriangleSet};
+///
+/// let counts = Triangle::from_rows(&[&[80, 20], &[90]]);
+/// let paid = Triangle::from_rows(&[&[600, 400], &[660]]);
+/// let set = TriangleSet { m: 2, counts, paid, incurred: None };
+/// let shares = shares(&set.to_file()?, 2)?;
+/// assert_eq!((shares.n, shares.u), (vec![100, 113], vec![1_000, 1_100]));
+/// # Ok::<(), pardesul::Refusal>(())
+/// ```
+pub fn shares(file: &[u8], m: usize) -> Result<Shares, Refusal> {
+    let [mut b, mut n, mut q, mut g, mut u] = [[0; 20]; 5];
+    Refusal::of(calls::shares(
+        file, m, &mut b, &mut n, &mut q, &mut g, &mut u,
+    ))?;
+    let [b, n, q, g, u] = [b, n, q, g, u].map(|list| list[..m].to_vec());
+    Ok(Shares { b, n, q, g, u })
+}
+
+/// The delays of a file in billionths, by payment delay; one may be negative. Refuses with 1 to 5
+/// and 9 to 12.
+///
+/// ```
+/// use pardesul::{delays, Triangle, TriangleSet};
+///
+/// let counts = Triangle::from_rows(&[&[80, 20], &[90]]);
+/// let paid = Triangle::from_rows(&[&[600, 400], &[660]]);
+/// let set = TriangleSet { m: 2, counts, paid, incurred: None };
+/// assert_eq!(delays(&set.to_file()?, 2)?, [750_000_000, 312_500_000]);
+/// # Ok::<(), pardesul::Refusal>(())
+/// ```
+pub fn delays(file: &[u8], m: usize) -> Result<Vec<i64>, Refusal> {
+    let mut p = [0; 20];
+    Refusal::of(calls::delays(file, m, &mut p))?;
+    Ok(p[..m].to_vec())
+}

@@ -2,7 +2,7 @@
 use mathlib.Core.Path.{_≡_, refl, sym, ap, _∙_}
 use mathlib.Core.Bool.{true}
 use mathlib.Core.List.{List, [], _∷_, _++_, append-assoc}
-use Prim.Native.Nat.{ℕ, zero, suc, _+_, _-_, _*_, _≤_, _<_}
+use Prim.Native.Nat.{ℕ, zero, suc, _+_, _-_, _*_, _^_, _≤_, _<_}
 use native.Mathlib.Nat.{le-refl}
 use native.Mathlib.Decide.{le-ind}
 use native.Mathlib.Numerals.{add-one}
@@ -76,6 +76,9 @@ next-room t k n h =
 pub refusal-size : (n : ℕ) → length (refusalText n) ≡ 9 + length (digits n)
 unfolding refusalText
 refusal-size n = simp length-append (omega arith)
+
+pub refusal-short : (n : ℕ) → n < 10 ^ 20 → length (refusalText n) ≤ 4096
+refusal-short n h = omega (arith, refusal-size n, digits-length 19 n h)
 
 -- ---- at most 2,573 bytes: 38 lines of 66 and one of 65
 

@@ -1,10 +1,12 @@
 -- The answer to a file, and laws of the answer to an input. Assumes nothing.
 use mathlib.Core.Path.{_≡_, refl, sym, _∙_, ap, ap₂, subst}
+use mathlib.Core.Bool.{Bool, true, false, cond}
 use mathlib.Core.List.{List, [], _++_, append-nil}
 use Prim.Native.Nat.{ℕ, _+_, _-_, _≤_, _<_}
 use native.Mathlib.Nat.{zero-add, sub-zero}
 use native.Mathlib.Omega.{arith}
-use borrow.Author.Tests.{ne-eqb, le-leb, lt-leb}
+use borrow.Author.Tests.{ne-eqb, le-leb, lt-leb, leb-true}
+use lib.Dec.{leb}
 use lib.ListN.{length, take, drop, length-append, length-drop}
 use lib.Seq.{take-append-seam}
 use Rattle.model.specs.Overlay.{overlay}
@@ -88,6 +90,14 @@ module _ (s : List ℕ) where
     pub too-short : length before < length (closingText s) → (respondAnswer s before ≡ 0) × (respondOutput s before ≡ before)
     unfolding respondAnswer respondOutput
     too-short h = (rw (lt-leb (length (closingText s)) (length before) h), rw (lt-leb (length (closingText s)) (length before) h))
+
+    pub answer-within : respondAnswer s before ≤ length before
+    unfolding respondAnswer
+    answer-within = by-room (leb (length (closingText s)) (length before)) refl
+      where
+        by-room : (t : Bool) → leb (length (closingText s)) (length before) ≡ t → cond t (length (closingText s)) 0 ≤ length before
+        by-room true e = leb-true (length (closingText s)) (length before) e
+        by-room false e = omega arith
 
     -- the text goes from the front of a longer list to the front of the output
     pub copied : (filled whole after : List ℕ) (n r : ℕ) → whole ≡ overlay filled 0 (closingText s) → n ≡ length (closingText s) → n ≤ length before

@@ -1,13 +1,13 @@
 -- `calendar::closing::answer` meets its contract: the first line is refused, or asks for the answer to the file behind it. Assumes nothing.
 use mathlib.Core.Path.{_≡_, sym, _∙_}
 use Prim.Native.Nat.{_≤_}
+use native.Mathlib.Nat.{le-trans}
 use native.Mathlib.Omega.{arith}
 use denote.Ref.{now}
 use lib.ListN.{length}
 use Rattle.model.specs.Calendar.{firstLine}
 use Rattle.model.specs.declared.FirstLine.the-variants.{Asked}
-use Rattle.calendar.specs.Digits.{digits-length}
-use Rattle.calendar.specs.Pages.{refusal-size}
+use Rattle.calendar.specs.Pages.{refusal-short}
 use Rattle.calendar.specs.Respond.{file-part, file-inside, asked-text, wrong-text}
 use borrow.Author.Needs.{needs}
 use Rattle.calendar.proofs.closing.answer.Statement.{statement}
@@ -35,7 +35,7 @@ enum-told : tie.Need-enum-told
 enum-told c = search needs
 
 write-refusal-requires : tie.Need-write-refusal-requires
-write-refusal-requires c κs = omega (arith, refusal-size 1, digits-length 0 1 (omega arith), c .before .before .before .before .before .before .pre)
+write-refusal-requires c κs = le-trans (refusal-short _ (omega arith)) (c .before .before .before .before .before .before .pre)
 
 same-length : tie.Need-same-length
 same-length c = search needs

@@ -2,6 +2,7 @@
 use mathlib.Core.Path.{_≡_, sym, _∙_, ap, subst}
 use mathlib.Core.List.{List}
 use Prim.Native.Nat.{ℕ, _≤_}
+use native.Mathlib.Nat.{le-trans}
 use native.Mathlib.Omega.{arith}
 use denote.Ref.{now}
 use lib.IntN.{ℤ, pos}
@@ -12,9 +13,8 @@ use Rattle.model.specs.Calls.{zeros, forecastRefusal, forecastAnswer, forecastO
 use Rattle.model.specs.declared.ForecastAnswer.{ForecastAnswer}
 use Rattle.forecast.specs.SmallEntries.{file-small}
 use Rattle.calendar.specs.YearSums.{Small}
-use Rattle.calendar.specs.Digits.{digits-length}
 use Rattle.calendar.specs.Printable.{Printable, small-printable}
-use Rattle.calendar.specs.Pages.{page-length, refusal-size}
+use Rattle.calendar.specs.Pages.{page-length, refusal-short}
 use Rattle.calendar.specs.Respond.{fileText, text-refused, text-page}
 use borrow.Author.Needs.{needs}
 use Rattle.calendar.proofs.closing.answer_file.Statement.{statement}
@@ -56,7 +56,7 @@ forecast-requires c κs = search needs
 write-refusal-requires : tie.Need-write-refusal-requires
 write-refusal-requires c κs =
     let s = c .before .before in
-    omega (arith, refusal-size (s .before .before .forecast .result .refusal), digits-length 19 (s .before .before .forecast .result .refusal) (omega (arith, s .struct-known .given .0)), start (s .before .before) .pre)
+    le-trans (refusal-short _ (omega (arith, s .struct-known .given .0))) (start (s .before .before) .pre)
 
 same-length : tie.Need-same-length
 same-length c = search needs

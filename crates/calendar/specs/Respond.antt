@@ -16,6 +16,8 @@ use Rattle.model.specs.declared.Run.{Run}
 use Rattle.model.specs.declared.Run.the-variants.{Number, Wrong}
 use Rattle.model.specs.declared.FirstLine.{FirstLine}
 use Rattle.model.specs.declared.FirstLine.the-variants.{Asked, Refused}
+use Rattle.triangles.specs.Order.{SameRecords}
+use Rattle.triangles.specs.CallsOrder.{forecast-refusal-order, output-order}
 use Rattle.calendar.specs.Runs.{run-within}
 use Rattle.calendar.specs.Written.{Written, written-whole}
 
@@ -32,6 +34,11 @@ text-refused m f method basis n o e = rw (e, ne-eqb n 0 o)
 pub text-page : (m : ℕ) (f : List ℕ) (method basis : ℕ) → forecastRefusal m f method basis 1560 ≡ 0 → fileText m f method basis ≡ page m (tallyOf m (forecastOutput m f method basis (zeros 1560)))
 unfolding fileText
 text-page m f method basis e = rw e
+
+-- the order of the records changes nothing
+pub text-order : (f g : List ℕ) → SameRecords f g → (m method basis : ℕ) → fileText m f method basis ≡ fileText m g method basis
+unfolding fileText
+text-order f g same m method basis = rw (forecast-refusal-order f g same m method basis 1560, output-order f g same m method basis (zeros 1560))
 
 -- ---- parts of a list
 take-whole : (n : ℕ) (xs : List ℕ) → length xs ≡ n → take n xs ≡ xs

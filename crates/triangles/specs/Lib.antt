@@ -10,3 +10,4 @@ pub mod Keys
 pub mod Written
 pub mod WrittenLaws
 pub mod RoundTrip
+pub mod CallsOrder

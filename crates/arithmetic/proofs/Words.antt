@@ -1,27 +1,18 @@
 -- Signed words in proofs: what a test says of two integers, and when an integer fits a word.
 -- Assumes nothing.
-use mathlib.Core.Path.{_≡_, sym, ap, subst}
+use mathlib.Core.Path.{_≡_, ap, subst}
 use mathlib.Core.Logic.{_⊎_, inl, inr}
-use mathlib.Core.Bool.{Bool, true, false, not}
+use mathlib.Core.Bool.{true, false}
 use Prim.Native.Nat.{_+_, _^_, _≤_, _<_}
 use native.Mathlib.Omega.{arith}
 use lib.Dec.{T}
 use lib.IntN.{ℤ, pos, negsuc, natAbs}
-use lib.Signed.{ltZ, leZ, leZ-yes, ltZ-yes, ltZ-no}
+use lib.Signed.{ltZ, leZ}
 use mir.Syntax.{w64}
 use mir.Val.{SFits, toZ, ofZ}
 use mir.Facts.{toZ-ofZ}
 use Rattle.integers.specs.Parts.{_⩽_, _⋖_, up, dn, le-parts, lt-parts}
-use Rattle.integers.specs.Order.{<ℤ-or-≥}
-
-pub lt-yes : {a b : ℤ} → ltZ a b ≡ true → a ⋖ b
-lt-yes e = ltZ-yes (subst T (sym e) tt)
-
-pub lt-no : {a b : ℤ} → ltZ a b ≡ false → b ⩽ a
-lt-no e = ltZ-no (subst (λ (t : Bool). T (not t)) (sym e) tt)
-
-le-yes : {a b : ℤ} → leZ a b ≡ true → a ⩽ b
-le-yes e = leZ-yes (subst T (sym e) tt)
+use Rattle.integers.specs.Order.{le-yes, lt-yes, lt-no, <ℤ-or-≥}
 
 nle : (a b : ℤ) → leZ a b ≡ false → (b ⋖ a) ⊎ (a ⩽ b) → b ⋖ a
 nle a b e (inl h) = h

@@ -59,11 +59,6 @@ by-half h = record { half = h }
 pub half-up : {x c : ℤ} → Half x c → pos 2 *ℤ x ⩽ c
 half-up {x} {c} h = lin (x ∷ ∣ x ∣ ∷ c ∷ []) (h .half & abs-up x) (search stmt depth 20) (omega arith)
 
-pub half-in : (x : ℤ) {c : ℤ} → pos 2 *ℤ x ⩽ c → pos 2 *ℤ negℤ x ⩽ c → Half x c
-unfolding ∣_∣
-half-in (pos n) h k = by-half h
-half-in (negsuc n) h k = by-half k
-
 pub half-is : {x y c : ℤ} → x ≡ y → Half x c → Half y c
 half-is {c = c} e h = subst (λ z. Half z c) e h
 

@@ -20,12 +20,6 @@ pub ≤ℤ-of-≡ : {a b : ℤ} → a ≡ b → a ≤ℤ b
 pub ≤ℤ-trans : {a b c : ℤ} → a ≤ℤ b → b ≤ℤ c → a ≤ℤ c
 ≤ℤ-trans h k = omega (arith, ints)
 
-pub ≤ℤ-<ℤ-trans : {a b c : ℤ} → a ≤ℤ b → b <ℤ c → a <ℤ c
-≤ℤ-<ℤ-trans h k = omega (arith, ints)
-
-pub <ℤ-trans : {a b c : ℤ} → a <ℤ b → b <ℤ c → a <ℤ c
-<ℤ-trans h k = omega (arith, ints)
-
 pub <ℤ-≤ℤ : {a b : ℤ} → a <ℤ b → a ≤ℤ b
 <ℤ-≤ℤ h = omega (arith, ints)
 
@@ -39,13 +33,6 @@ test a b false f g = inr (g tt)
 pub <ℤ-or-≥ : (a b : ℤ) → (a <ℤ b) ⊎ (b ≤ℤ a)
 <ℤ-or-≥ a b = test a b (ltZ a b) ltZ-yes ltZ-no
 
-pub ≤ℤ-total : (a b : ℤ) → (a ≤ℤ b) ⊎ (b ≤ℤ a)
-≤ℤ-total a b = go (<ℤ-or-≥ a b)
-  where
-    go : (a <ℤ b) ⊎ (b ≤ℤ a) → (a ≤ℤ b) ⊎ (b ≤ℤ a)
-    go (inl h) = inl (<ℤ-≤ℤ h)
-    go (inr h) = inr h
-
 -- ---- the tests
 so-true : (t : Bool) → T t → t ≡ true
 so-true true h = refl
@@ -54,18 +41,12 @@ so-true false h = absurd h
 pub leZ-true : {a b : ℤ} → a ≤ℤ b → leZ a b ≡ true
 leZ-true {a} {b} h = so-true (leZ a b) (h .le)
 
-pub ltZ-true : {a b : ℤ} → a <ℤ b → ltZ a b ≡ true
-ltZ-true {a} {b} h = so-true (ltZ a b) (h .lt)
-
 not-so : (t : Bool) → (T t → ⊥) → t ≡ false
 not-so true h = absurd (h tt)
 not-so false h = refl
 
 pub leZ-false : {a b : ℤ} → b <ℤ a → leZ a b ≡ false
 leZ-false {a} {b} h = not-so (leZ a b) (λ t. clashℤ h (leZ-yes t))
-
-pub ltZ-false : {a b : ℤ} → b ≤ℤ a → ltZ a b ≡ false
-ltZ-false {a} {b} h = not-so (ltZ a b) (λ t. clashℤ (ltZ-yes t) h)
 
 pub le-yes : {a b : ℤ} → leZ a b ≡ true → a ≤ℤ b
 le-yes e = leZ-yes (subst T (sym e) tt)
@@ -84,21 +65,6 @@ pub <ℤ-suc : {a b : ℤ} → a <ℤ b ↔ (a +ℤ pos 1) ≤ℤ b
 pub +ℤ-mono : {a b c d : ℤ} → a ≤ℤ b → c ≤ℤ d → (a +ℤ c) ≤ℤ (b +ℤ d)
 +ℤ-mono {a} {b} {c} {d} h k = omega (arith, ints, add-parts a c, add-parts b d)
 
-pub +ℤ-mono-< : {a b c d : ℤ} → a <ℤ b → c ≤ℤ d → (a +ℤ c) <ℤ (b +ℤ d)
-+ℤ-mono-< {a} {b} {c} {d} h k = omega (arith, ints, add-parts a c, add-parts b d)
-
-pub +ℤ-mono-r : {a b : ℤ} (c : ℤ) → a ≤ℤ b → (a +ℤ c) ≤ℤ (b +ℤ c)
-+ℤ-mono-r {a} {b} c h = omega (arith, ints, add-parts a c, add-parts b c)
-
-pub +ℤ-mono-l : {a b : ℤ} (c : ℤ) → a ≤ℤ b → (c +ℤ a) ≤ℤ (c +ℤ b)
-+ℤ-mono-l {a} {b} c h = omega (arith, ints, add-parts c a, add-parts c b)
-
-pub +ℤ-cancel-≤ : {a b : ℤ} (c : ℤ) → (a +ℤ c) ≤ℤ (b +ℤ c) → a ≤ℤ b
-+ℤ-cancel-≤ {a} {b} c h = omega (arith, ints, add-parts a c, add-parts b c)
-
-pub negℤ-anti : {a b : ℤ} → a ≤ℤ b → negℤ b ≤ℤ negℤ a
-negℤ-anti {a} {b} h = omega (arith, ints, up-neg a, dn-neg a, up-neg b, dn-neg b)
-
 pub sub-nonneg : {a b : ℤ} → a ≤ℤ b ↔ pos 0 ≤ℤ (b -ℤ a)
 sub-nonneg {a} {b} = (λ (h : a ≤ℤ b). omega (arith, ints, diff-parts b a), λ (h : pos 0 ≤ℤ (b -ℤ a)). omega (arith, ints, diff-parts b a))
 
@@ -113,10 +79,6 @@ pub nonneg-pos : {x : ℤ} → pos 0 ≤ℤ x → x ≡ pos (natAbs x)
 nonneg-pos {x = pos n} h = refl
 nonneg-pos {x = negsuc n} h = absurd (h .le)
 
-pub neg-negsuc : {x : ℤ} → x <ℤ pos 0 → x ≡ negℤ (pos (natAbs x))
-neg-negsuc {x = pos n} h = absurd (omega (arith, ints))
-neg-negsuc {x = negsuc n} h = refl
-
 pub *ℤ-mono-r : {a b : ℤ} (c : ℤ) → pos 0 ≤ℤ c → a ≤ℤ b → (a *ℤ c) ≤ℤ (b *ℤ c)
 *ℤ-mono-r {a} {b} (pos n) p h = omega (arith, ints, mul-parts a (pos n), mul-parts b (pos n), mul-le-mul-right n (le-parts h))
 *ℤ-mono-r {a} {b} (negsuc n) p h = absurd (p .le)
@@ -128,14 +90,6 @@ pub *ℤ-nonneg : {a b : ℤ} → pos 0 ≤ℤ a → pos 0 ≤ℤ b → pos 0 �
 *ℤ-nonneg {a = pos m} {b = pos n} p q = nonneg (m * n)
 *ℤ-nonneg {a = pos m} {b = negsuc n} p q = absurd (q .le)
 *ℤ-nonneg {a = negsuc m} {b = b} p q = absurd (p .le)
-
-pub square-nonneg : (a : ℤ) → pos 0 ≤ℤ (a *ℤ a)
-square-nonneg (pos m) = nonneg (m * m)
-square-nonneg (negsuc m) = nonneg (suc m * suc m)
-
--- for 0 ≤ c ≤ d and 0 ≤ a ≤ b
-pub *ℤ-mono : {a b c d : ℤ} → pos 0 ≤ℤ b → pos 0 ≤ℤ c → a ≤ℤ b → c ≤ℤ d → (a *ℤ c) ≤ℤ (b *ℤ d)
-*ℤ-mono {a} {b} {c} {d} p q h k = ≤ℤ-trans (*ℤ-mono-r c q h) (*ℤ-mono-l b p k)
 
 -- by a number that is not positive the order turns
 pub *ℤ-anti-r : {a b : ℤ} (c : ℤ) → c ≤ℤ pos 0 → a ≤ℤ b → (b *ℤ c) ≤ℤ (a *ℤ c)
@@ -162,14 +116,6 @@ pub *ℤ-cancel-≤ : {a b : ℤ} (c : ℤ) → pos 0 <ℤ c → (a *ℤ c) ≤�
     go : (b <ℤ a) ⊎ (a ≤ℤ b) → a ≤ℤ b
     go (inl k) = clashℤ (*ℤ-mono-< c p k) h
     go (inr k) = k
-
-pub *ℤ-cancel : {a b : ℤ} (c : ℤ) → pos 0 <ℤ c → a *ℤ c ≡ b *ℤ c → a ≡ b
-*ℤ-cancel c p h = ≤ℤ-antisym (*ℤ-cancel-≤ c p (≤ℤ-of-≡ h)) (*ℤ-cancel-≤ c p (≤ℤ-of-≡ (sym h)))
-
--- ---- by a combination of facts: what is left is an identity, for `ring`
--- x - y = c * (l - r)
-pub ≡-by : (c : ℤ) {l r x y : ℤ} → l ≡ r → x +ℤ c *ℤ r ≡ y +ℤ c *ℤ l → x ≡ y
-≡-by c {l} {r} {x} {y} h e = omega (arith, ints, add-parts x (c *ℤ r), add-parts y (c *ℤ l), ap (λ (z : ℤ). up (c *ℤ z)) h, ap (λ (z : ℤ). dn (c *ℤ z)) h)
 
 -- y - x = r - l
 pub ≤-by : {l r x y : ℤ} → l ≤ℤ r → x +ℤ r ≡ y +ℤ l → x ≤ℤ y
@@ -199,32 +145,11 @@ natAbs-plus {x = negsuc m} {y = y} p q = absurd (p .le)
 pub natAbs--ℤ : (x y : ℤ) → natAbs (x -ℤ y) ≤ natAbs x + natAbs y
 natAbs--ℤ x y = lin (x ∷ y ∷ []) (le-refl (natAbs x) & le-refl (natAbs y)) (search stmt) (omega arith)
 
-pub natAbs-triangle : (x y z : ℤ) → natAbs (x -ℤ z) ≤ natAbs (x -ℤ y) + natAbs (y -ℤ z)
-natAbs-triangle x y z = lin (x ∷ y ∷ z ∷ []) (le-refl (natAbs (x -ℤ y)) & le-refl (natAbs (y -ℤ z))) (search stmt) (omega arith)
-
-pub natAbs-swap : (x y : ℤ) → natAbs (x -ℤ y) ≡ natAbs (y -ℤ x)
-natAbs-swap x y = omega (arith, below x y, below y x)
-  where
-    below : (x y : ℤ) → natAbs (x -ℤ y) ≤ natAbs (y -ℤ x)
-    below x y = lin (x ∷ y ∷ []) (le-refl (natAbs (y -ℤ x))) (search stmt) (omega arith)
-
 pub natAbs-≤ : {x : ℤ} {n : ℕ} → natAbs x ≤ n ↔ (x ≤ℤ pos n) × (negℤ (pos n) ≤ℤ x)
 natAbs-≤ {x} {n} = (
   λ (h : natAbs x ≤ n). (lin (x ∷ []) h (search stmt) (omega arith), lin (x ∷ []) h (search stmt) (omega arith)),
   λ (h : (x ≤ℤ pos n) × (negℤ (pos n) ≤ℤ x)). lin (x ∷ []) (h .0 & h .1) (search stmt) (omega arith),
 )
-
-pub natAbs-sub-≤ : {x y : ℤ} {n : ℕ} → natAbs (x -ℤ y) ≤ n ↔ (x ≤ℤ (y +ℤ pos n)) × (y ≤ℤ (x +ℤ pos n))
-natAbs-sub-≤ {x} {y} {n} = (
-  λ (h : natAbs (x -ℤ y) ≤ n). (lin (x ∷ y ∷ []) h (search stmt) (omega arith), lin (x ∷ y ∷ []) h (search stmt) (omega arith)),
-  λ (h : (x ≤ℤ (y +ℤ pos n)) × (y ≤ℤ (x +ℤ pos n))). lin (x ∷ y ∷ []) (h .0 & h .1) (search stmt) (omega arith),
-)
-
-pub ≤ℤ-natAbs : (x : ℤ) → x ≤ℤ pos (natAbs x)
-≤ℤ-natAbs x = lin (x ∷ []) (le-refl (natAbs x)) (search stmt) (omega arith)
-
-pub natAbs-zero : {x : ℤ} → natAbs x ≡ 0 → x ≡ pos 0
-natAbs-zero {x} h = omega (arith, ints, abs-parts x)
 
 pub natAbs-mono : {x y : ℤ} → pos 0 ≤ℤ x → x ≤ℤ y → natAbs x ≤ natAbs y
 natAbs-mono {x} {y} p h = lin (x ∷ y ∷ []) (p & h & le-refl (natAbs y)) (search stmt) (omega arith)

@@ -81,20 +81,6 @@ sum-first (suc n) f =
     ap (λ (x : ℤ). x +ℤ f (suc n)) (sum-first n f)
     ∙ ring (f 0 ∷ sum n (λ k. f (suc k)) ∷ f (suc n) ∷ []) (search form) tt
 
-pub sum-reverse : (n : ℕ) (f : ℕ → ℤ) → sum n (λ k. f (n - suc k)) ≡ sum n f
-unfolding sum
-sum-reverse zero f = refl
-sum-reverse (suc n) f =
-    sum-first n (λ k. f (suc n - suc k))
-    ∙ ap₂ (λ (x y : ℤ). x +ℤ y) (ap f (last n)) (sum-cong n (λ k l. ap f (shift n k)) ∙ sum-reverse n f)
-    ∙ +ℤ-comm (f n) (sum n f)
-  where
-    last : (n : ℕ) → suc n - 1 ≡ n
-    last n = omega arith
-
-    shift : (n k : ℕ) → suc n - suc (suc k) ≡ n - suc k
-    shift n k = omega arith
-
 pub sum-telescope : (n : ℕ) (f : ℕ → ℤ) → sum n (λ k. f (suc k) -ℤ f k) ≡ f n -ℤ f 0
 unfolding sum
 sum-telescope zero f = ring (f 0 ∷ []) (search form) tt
@@ -154,71 +140,6 @@ sum-swap (suc n) m f =
     ap (λ (x : ℤ). x +ℤ sum m (λ j. f n j)) (sum-swap n m f)
     ∙ sym (sum-+ℤ m (λ j. sum n (λ i. f i j)) (λ j. f n j))
 
--- the sum over j ≤ i < n, by columns: Σ_{i<n} Σ_{j≤i} f i j = Σ_{j<n} Σ_{i<n-j} f (j + i) j
-pub sum-triangle : (n : ℕ) (f : ℕ → ℕ → ℤ) → sum n (λ i. sum (suc i) (λ j. f i j)) ≡ sum n (λ j. sum (n - j) (λ i. f (j + i) j))
-unfolding sum
-sum-triangle zero f = refl
-sum-triangle (suc n) f =
-    ap (λ (x : ℤ). x +ℤ (sum n (λ j. f n j) +ℤ f n n)) (sum-triangle n f)
-    ∙ ring (sum n (λ j. sum (n - j) (λ i. f (j + i) j)) ∷ sum n (λ j. f n j) ∷ f n n ∷ []) (search form) tt
-    ∙ ap₂ (λ (x y : ℤ). x +ℤ y) (sym (sum-+ℤ n (λ j. sum (n - j) (λ i. f (j + i) j)) (λ j. f n j)) ∙ sum-cong n column) (sym corner)
-  where
-    column : (j : ℕ) → j < n → sum (n - j) (λ i. f (j + i) j) +ℤ f n j ≡ sum (suc n - j) (λ i. f (j + i) j)
-    column j l =
-        let e : n ≡ j + (n - j) = omega arith in
-        let d : suc n - j ≡ suc (n - j) = omega arith in
-        ap (λ (m : ℕ). sum (n - j) (λ i. f (j + i) j) +ℤ f m j) e
-        ∙ sym (ap (λ (m : ℕ). sum m (λ i. f (j + i) j)) d ∙ sum-suc (n - j) (λ i. f (j + i) j))
-
-    corner : sum (suc n - n) (λ i. f (n + i) n) ≡ f n n
-    corner =
-        let e : suc n - n ≡ 1 = omega arith in
-        ap (λ (m : ℕ). sum m (λ i. f (n + i) n)) e ∙ sum-suc 0 (λ i. f (n + i) n)
-        ∙ +ℤ-idl (f (n + 0) n) ∙ ap (λ (m : ℕ). f m n) (add-zero n)
-
 -- ---- convolutions: `conv b p j` is Σ_{k≤j} b k * p (j - k)
 unfoldable pub conv : (ℕ → ℤ) → (ℕ → ℤ) → ℕ → ℤ
 conv b p j = sum (suc j) (λ k. b k *ℤ p (j - k))
-
-pub conv-comm : (b p : ℕ → ℤ) (j : ℕ) → conv b p j ≡ conv p b j
-unfolding conv
-conv-comm b p j =
-    sym (sum-reverse (suc j) (λ k. b k *ℤ p (j - k)))
-    ∙ sum-cong (suc j) (λ k l. ap₂ (λ (x y : ℕ). b x *ℤ p y) (first j k) (second j k l) ∙ *ℤ-comm (b (j - k)) (p k))
-  where
-    first : (j k : ℕ) → suc j - suc k ≡ j - k
-    first j k = omega arith
-
-    second : (j k : ℕ) → k < suc j → j - (suc j - suc k) ≡ k
-    second j k l = omega arith
-
-pub conv-+ℤ : (b p q : ℕ → ℤ) (j : ℕ) → conv b (λ k. p k +ℤ q k) j ≡ conv b p j +ℤ conv b q j
-unfolding conv
-conv-+ℤ b p q j =
-    sum-cong (suc j) (λ k l. *ℤ-+ℤ (b k) (p (j - k)) (q (j - k)))
-    ∙ sum-+ℤ (suc j) (λ k. b k *ℤ p (j - k)) (λ k. b k *ℤ q (j - k))
-
-pub conv-*ℤ : (c : ℤ) (b p : ℕ → ℤ) (j : ℕ) → conv (λ k. c *ℤ b k) p j ≡ c *ℤ conv b p j
-unfolding conv
-conv-*ℤ c b p j =
-    sum-cong (suc j) (λ k l. *ℤ-assoc c (b k) (p (j - k))) ∙ sum-*ℤ-l (suc j) c (λ k. b k *ℤ p (j - k))
-
-pub conv-assoc : (a b c : ℕ → ℤ) (j : ℕ) → conv (conv a b) c j ≡ conv a (conv b c) j
-unfolding conv
-conv-assoc a b c j =
-    sum-cong (suc j) (λ k l. sym (sum-*ℤ-r (suc k) (λ i. a i *ℤ b (k - i)) (c (j - k))))
-    ∙ sum-triangle (suc j) (λ k i. a i *ℤ b (k - i) *ℤ c (j - k))
-    ∙ sum-cong (suc j) row
-  where
-    entry : (i m : ℕ) → a i *ℤ b (i + m - i) *ℤ c (j - (i + m)) ≡ a i *ℤ (b m *ℤ c (j - i - m))
-    entry i m =
-        let e : i + m - i ≡ m = omega arith in
-        let d : j - (i + m) ≡ j - i - m = omega arith in
-        ap₂ (λ (x y : ℕ). a i *ℤ b x *ℤ c y) e d ∙ *ℤ-assoc (a i) (b m) (c (j - i - m))
-
-    row : (i : ℕ) → i < suc j → sum (suc j - i) (λ m. a i *ℤ b (i + m - i) *ℤ c (j - (i + m))) ≡ a i *ℤ sum (suc (j - i)) (λ m. b m *ℤ c (j - i - m))
-    row i l =
-        let e : suc j - i ≡ suc (j - i) = omega arith in
-        sum-cong (suc j - i) (λ m h. entry i m)
-        ∙ ap (λ (n : ℕ). sum n (λ m. a i *ℤ (b m *ℤ c (j - i - m)))) e
-        ∙ sum-*ℤ-l (suc (j - i)) (a i) (λ m. b m *ℤ c (j - i - m))

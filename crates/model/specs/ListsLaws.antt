@@ -93,6 +93,11 @@ listed-ext n m f g d e = tabulate-ext n (λ k. cond (ltb k m) (f k) d) (λ k. co
     by-test k true q = e k (ltb-true k m q)
     by-test k false q = refl
 
+-- a list that is filled to its end
+pub listed-whole : {A : Type 0} (n : ℕ) (f : ℕ → A) (d : A) → listed n n f d ≡ tabulate n f
+unfolding listed
+listed-whole n f d = tabulate-ext n (λ k. cond (ltb k n) (f k) d) f (λ k h. rw (lt-ltb k n h))
+
 pub listed-none : {A : Type 0} (n : ℕ) (f : ℕ → A) (d : A) → replicate n d ≡ listed n 0 f d
 unfolding listed
 listed-none n f d = tabulate-same n d ∙ tabulate-ext n (λ _. d) (λ k. cond (ltb k 0) (f k) d) (λ k h. rw (le-ltb k 0 (omega arith)))

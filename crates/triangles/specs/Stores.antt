@@ -3,12 +3,10 @@ use mathlib.Core.Path.{_≡_, sym, subst}
 use mathlib.Core.Bool.{cond}
 use mathlib.Core.List.{List}
 use Prim.Native.Nat.{ℕ, _<_}
-use borrow.Author.Tests.{lt-ltb, eqb-true, eqb-false}
-use lib.Dec.{ltb, eqb}
+use borrow.Author.Tests.{eqb-true, eqb-false}
+use lib.Dec.{eqb}
 use lib.ListN.{length, getD, set}
 use lib.Seq.{getD-set-same, getD-set-other}
-use Rattle.model.specs.Lists.{tabulate, listed}
-use Rattle.model.specs.ListsLaws.{tabulate-ext}
 use Rattle.triangles.specs.Tests.{by-test}
 
 -- what is read at j after a write at i
@@ -17,8 +15,3 @@ getD-set l i j v d h =
     by-test (eqb i j)
     (λ e. rw e (subst (λ (n : ℕ). getD (set l i v) n d ≡ v) (eqb-true i j e) (getD-set-same l i v d h)))
     (λ e. rw e (getD-set-other l i j v d (λ q. eqb-false i j e (sym q))))
-
--- a list that is filled to its end
-pub listed-whole : {A : Type 0} (n : ℕ) (f : ℕ → A) (d : A) → listed n n f d ≡ tabulate n f
-unfolding listed
-listed-whole n f d = tabulate-ext n (λ k. cond (ltb k n) (f k) d) f (λ k h. rw (lt-ltb k n h))

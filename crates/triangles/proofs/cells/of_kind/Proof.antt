@@ -5,11 +5,10 @@ use mathlib.Core.Path.{_≡_, _∙_}
 use Prim.Native.Nat.{_≤_, _-_, _+_, _*_}
 use lib.IntN.{pos}
 use Rattle.model.specs.Lists.{at, listed}
-use Rattle.model.specs.ListsLaws.{listed-none, listed-more}
+use Rattle.model.specs.ListsLaws.{listed-none, listed-more, listed-whole}
 use mir.Syntax.{w64}
 use mir.Val.{SFits}
 use mir.Facts.{toZ-ofZ}
-use Rattle.triangles.specs.Stores.{listed-whole}
 use Rattle.triangles.proofs.cells.of_kind.Statement.{statement}
 use Rattle.triangles.proofs.cells.of_kind.Tie as tie
 

@@ -1,0 +1,38 @@
+-- `gaps::compared` meets its contract. Assumes nothing.
+use mathlib.Core.Path.{_≡_}
+use Prim.Native.Nat.{_+_}
+use native.Mathlib.Omega.{arith}
+use borrow.Author.Needs.{needs}
+use borrow.Author.Tests.{le-leb, lt-leb, lt-ltb, le-ltb}
+use Rattle.model.specs.BackTest as BackTest
+use Rattle.back_test.proofs.gaps.compared.Statement.{statement}
+use Rattle.back_test.proofs.gaps.compared.Tie as tie
+
+returns : tie.Need-returns
+unfolding BackTest.compared
+returns c = let a = c .before .args in rw (lt-leb (a .i) (a .n) (c .if1 .taken))
+
+returns-2 : tie.Need-returns-2
+unfolding BackTest.compared
+returns-2 c = let a = c .before .before .args in rw (le-leb (a .i) (a .n) (c .before .if1 .left), le-ltb (a .j) (a .n) (c .if2 .taken))
+
+add-if3 : tie.Need-add-if3
+add-if3 c = search needs
+
+returns-3 : tie.Need-returns-3
+unfolding BackTest.compared
+returns-3 c =
+    let a = c .before .before .before .args in
+    rw (le-leb (a .i) (a .n) (c .before .before .if1 .left), lt-ltb (a .j) (a .n) (c .before .if2 .left), le-ltb (a .n) (a .i + a .j) (c .if3 .taken))
+
+add-result : tie.Need-add-result
+add-result c = search needs
+
+returns-4 : tie.Need-returns-4
+unfolding BackTest.compared
+returns-4 c =
+    let a = c .before .before .before .args in
+    rw (le-leb (a .i) (a .n) (c .before .before .if1 .left), lt-ltb (a .j) (a .n) (c .before .if2 .left), lt-ltb (a .n) (a .i + a .j) (c .if3 .left))
+
+pub compared-spec : {M : Type 1} → statement M
+compared-spec = tie.close (tie.spec returns returns-2 add-if3 returns-3 add-result returns-4)

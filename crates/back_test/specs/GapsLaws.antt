@@ -1,11 +1,11 @@
--- Laws of the gaps: where they are read, their size, and that the list holds document 01's gaps. Assumes nothing.
-use mathlib.Core.Path.{_≡_, refl, sym, _∙_, ap, ap₂}
-use mathlib.Core.Bool.{Bool, true, false, _&&_, cond}
+-- Laws of the gaps: how many cells are compared, where they are read, their size, and that the list holds document 01's gaps. Assumes nothing.
+use mathlib.Core.Path.{_≡_, refl, _∙_}
+use mathlib.Core.Bool.{Bool, true, false, _&&_}
 use mathlib.Core.List.{List}
 use Prim.Native.Nat.{ℕ, suc, _+_, _-_, _*_, _/_, _%_, _^_, _≤_, _<_}
 use native.Mathlib.Nat.{mul-assoc, mul-le-mul, mul-le-mul-right, suc-mul}
 use native.Mathlib.Omega.{arith}
-use borrow.Author.Tests.{ltb-true, leb-true, eqb-true, lt-leb}
+use borrow.Author.Tests.{ltb-true, leb-true, eqb-true}
 use lib.Dec.{T, leb, ltb, eqb}
 use lib.IntN.{ℤ, pos, natAbs, _+ℤ_, _-ℤ_}
 use lib.ListN.{List·getD-append, drop}
@@ -14,8 +14,8 @@ use Rattle.model.specs.Lists.{at, every}
 use Rattle.model.specs.ListsLaws.{length-tabulate, getD-tabulate, every-at, and-left, and-right}
 use Rattle.model.specs.Records.{cell}
 use Rattle.model.specs.Cells.{placeOf, yearOf, delayOf, size, rbns, ibnr, entry, entries, outputFrom}
-use Rattle.model.specs.BackTest.{compared, cutTo, gap}
-use Rattle.model.specs.Agreement.{placeAgrees, placesAgree, places}
+use Rattle.model.specs.BackTest.{compared, cellNumber, cutTo, gap}
+use Rattle.model.specs.Agreement.{comparedCells, numbersAgree, cell-numbers, placeAgrees, placesAgree, places}
 use Rattle.model.specs.declared.TriangleSet.{TriangleSet}
 use Rattle.triangles.specs.Tests.{by-test}
 use Rattle.back_test.specs.Gaps.{Forecast, gapFrom, gaps, SmallGaps}
@@ -32,6 +32,21 @@ compared-so m n i j h =
       leb-true (i + j) m (and-right (leb i n && ltb j n && ltb n (i + j)) (leb (i + j) m) h),
     )
 
+so-true : (t : Bool) → T t → t ≡ true
+so-true true h = refl
+so-true false h = absurd h
+
+-- as many cells are compared as document 01 says
+pub cells-compared : (m c : ℕ) → m ≤ 20 → 1 ≤ c → c + 2 ≤ m → comparedCells m (m - c) ≡ cellNumber c (m - c)
+unfolding numbersAgree
+cells-compared m c few some most =
+    let e : m - 3 + 3 ≡ m = omega arith in
+    let d : m - 3 + 2 - (c - 1) ≡ m - c = omega arith in
+    let u : c - 1 + 1 ≡ c = omega arith in
+    let a = every-at numbersAgree 18 (m - 3) (so-true _ cell-numbers) (omega arith) in
+    let b = every-at (λ c. eqb (comparedCells (m - 3 + 3) (m - 3 + 2 - c)) (cellNumber (c + 1) (m - 3 + 2 - c))) (m - 3 + 1) (c - 1) a (omega arith) in
+    rw (e, d, u) at (eqb-true (comparedCells (m - 3 + 3) (m - 3 + 2 - (c - 1))) (cellNumber (c - 1 + 1) (m - 3 + 2 - (c - 1))) b)
+
 -- ---- the places that are read
 row-end : (a n w : ℕ) → a < n → a * w + w ≤ n * w
 row-end a n w h = omega (arith, suc-mul a w, mul-le-mul-right w h)
@@ -41,10 +56,6 @@ place-inside n i j h l u = omega (arith, row-end (i - 1) n (2 * n - 1) (omega ar
 
 pub size-small : (n : ℕ) → n ≤ 20 → size n ≤ 1560
 size-small n h = let a : 2 * n ≤ 40 = omega arith in let b : 2 * n - 1 ≤ 39 = omega arith in omega (arith, mul-le-mul a b)
-
-so-true : (t : Bool) → T t → t ≡ true
-so-true true h = refl
-so-true false h = absurd h
 
 -- year and delay of a place
 place-agrees : (n i j : ℕ) → 2 ≤ n → n ≤ 20 → 1 ≤ i → i ≤ n → j < n → placeAgrees n i j ≡ true

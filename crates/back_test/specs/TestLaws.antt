@@ -1,5 +1,5 @@
 -- Laws of the back-test: of a set, from its forecast and its errors; of a file, its refusal question by question. Assumes nothing.
-use mathlib.Core.Path.{_≡_, refl, sym, _∙_, ap, subst}
+use mathlib.Core.Path.{_≡_, _∙_, ap}
 use mathlib.Core.Bool.{true, false, and-false}
 use mathlib.Core.List.{List, [], _∷_, _++_, append-assoc}
 use Prim.Native.Nat.{ℕ, suc, _+_, _-_, _≤_, _<_}
@@ -16,13 +16,12 @@ use Rattle.model.specs.Questions.{Question, q6, q8, firstNo, ofFile, ofForecast
 use Rattle.model.specs.QuestionsLaws.{yes-first, no-first}
 use Rattle.model.specs.Calls.{zeros, readRefusal, backTestRefusal, backTestOf, backTestAnswer}
 use Rattle.model.specs.declared.TriangleSet.{TriangleSet}
-use Rattle.model.specs.declared.BackTestAnswer.{BackTestAnswer}
 use Rattle.chain_ladder.specs.Accepted.{file-no, file-yes}
 use Rattle.chain_ladder.specs.Valid.{Valid, few, paid-small}
 use Rattle.forecast.specs.Prepared.{setRefusal, setOutput}
 use Rattle.forecast.specs.SmallEntries.{output-small}
-use Rattle.back_test.specs.Gaps.{Forecast, gaps, SmallGaps}
-use Rattle.back_test.specs.GapsLaws.{gap-is, gaps-at, gaps-small, size-small}
+use Rattle.back_test.specs.Gaps.{Forecast, gaps}
+use Rattle.back_test.specs.GapsLaws.{gap-is, gaps-at, size-small}
 use Rattle.back_test.specs.ErrorsLaws.{same-by-cell, same-by-year, same-in-all}
 use Rattle.back_test.specs.CutLaws as CutLaws
 use Rattle.back_test.specs.SetTest.{refusedTest, setTest}

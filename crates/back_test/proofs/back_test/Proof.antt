@@ -1,8 +1,8 @@
 -- `back_test` meets its contract: the reader's questions, 6 and 8, and then the back-test of the set. Assumes nothing.
 use mathlib.Core.Path.{_≡_, sym, _∙_, ap, subst}
-use mathlib.Core.Bool.{Bool, true, false}
+use mathlib.Core.Bool.{true}
 use mathlib.Core.List.{List}
-use Prim.Native.Nat.{ℕ, _+_, _-_, _≤_, _<_}
+use Prim.Native.Nat.{ℕ, _-_, _≤_}
 use native.Mathlib.Omega.{arith}
 use borrow.Author.Needs.{needs}
 use borrow.Author.Tests.{not-true, not-false}
@@ -12,7 +12,7 @@ use Rattle.model.specs.Questions.{q6}
 use Rattle.model.specs.Calls.{readRefusal}
 use Rattle.model.specs.declared.TriangleSet.{TriangleSet}
 use Rattle.chain_ladder.specs.Accepted.{valid-set, read-refusal, read-whole}
-use Rattle.chain_ladder.specs.Valid.{Valid, few, least}
+use Rattle.chain_ladder.specs.Valid.{Valid, least}
 use Rattle.back_test.specs.SetTest.{setTest}
 use Rattle.back_test.specs.TestLaws.{refused, by-file, by-method, none-cut, much-cut, tested}
 use Rattle.back_test.proofs.back_test.Statement.{statement}

@@ -1,19 +1,14 @@
 -- `test_set` meets its contract: the forecast of the cut set, and then the errors. Assumes nothing.
-use mathlib.Core.Path.{_≡_, refl, sym, _∙_, ap, subst}
-use mathlib.Core.Bool.{true}
+use mathlib.Core.Path.{_≡_, sym, _∙_, ap}
 use mathlib.Core.List.{List}
-use Prim.Native.Nat.{ℕ, _+_, _-_, _≤_}
+use Prim.Native.Nat.{ℕ, _-_, _≤_}
 use native.Mathlib.Omega.{arith}
 use borrow.Author.Needs.{needs}
 use lib.IntN.{ℤ}
-use lib.ListN.{length}
-use Rattle.model.specs.Cells.{size}
 use Rattle.model.specs.BackTest.{cutTo}
-use Rattle.model.specs.Questions.{q6}
 use Rattle.model.specs.Calls.{zeros}
 use Rattle.model.specs.declared.TriangleSet.{TriangleSet}
 use Rattle.model.specs.declared.ForecastAnswer.{ForecastAnswer}
-use Rattle.chain_ladder.specs.Valid.{Valid}
 use Rattle.forecast.specs.Prepared.{setRefusal, setAnswer, setOutput}
 use Rattle.back_test.specs.Gaps.{Forecast, SmallGaps}
 use Rattle.back_test.specs.Gaps as Gaps

@@ -1,5 +1,4 @@
 -- `cut::cut` meets its contract. Assumes nothing.
-use mathlib.Core.Path.{_≡_}
 use borrow.Author.Needs.{needs}
 use Rattle.model.specs.BackTest.{cutTo}
 use Rattle.back_test.proofs.cut.cut.Statement.{statement}

@@ -45,12 +45,16 @@ fn test_set(set: TriangleSet, m: usize, method: u64, basis: u64, c: usize) -> Ba
         return refused(answer.refusal);
     }
     let d = gaps(&entries, &set.paid, m, n);
+    let cells = cell_number(c, n);
+    let cellwise = error_by_cell(&d, n);
+    let yearwise = error_by_year(&d, n, c);
+    let overall = error_in_all(&d, n);
     BackTestAnswer {
         refusal: 0,
-        cells: cell_number(c, n),
-        cellwise: error_by_cell(&d, n),
-        yearwise: error_by_year(&d, n, c),
-        overall: error_in_all(&d, n),
+        cells,
+        cellwise,
+        yearwise,
+        overall,
     }
 }
 

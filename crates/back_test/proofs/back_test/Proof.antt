@@ -110,7 +110,7 @@ returns-3 c =
     ∙ sym (refused (m d) (f d) (a .c) (a .method) (a .basis) 8 (λ z. omega arith) (none-cut (m d) (f d) (a .c) (a .method) (a .basis) (accepted (else k)) (six e) (c .before .if3 .taken)))
 
 sub-if4 : tie.Need-sub-if4
-sub-if4 c = two-up (else (known (c .before)))
+sub-if4 c = omega (arith, two-up (else (known (c .before))))
 
 refused-requires-4 : tie.Need-refused-requires-4
 refused-requires-4 c κs = search needs

@@ -43,15 +43,18 @@ module _ (c : tie.After-forecast-set) where
   known-is : c .before .before .cut .result ≡ known
   known-is = c .before .before .cut .ensures
 
+  answer-is : c .forecast-set .result ≡ setAnswer (n start) (c .before .before .cut .result) (start .args .method)
+  answer-is = c .forecast-set .ensures .0
+
   refusal-is : setRefusal (n start) known (start .args .method) ≡ c .forecast-set .result .refusal
   unfolding setAnswer
-  refusal-is = sym (ap (λ (a : ForecastAnswer). a .refusal) (rw known-is at (c .forecast-set .ensures .0)))
+  refusal-is = sym (ap (λ (a : ForecastAnswer). a .refusal) (answer-is ∙ ap (λ (t : TriangleSet). setAnswer (n start) t (start .args .method)) known-is))
 
   abbrev output : List ℤ
   output = c .forecast-set .last .1 .1 .1 .1 .0
 
   output-is : output ≡ setOutput (n start) known (start .args .method) (start .args .basis) (zeros 1560)
-  output-is = rw known-is at (c .forecast-set .ensures .1)
+  output-is = c .forecast-set .ensures .1 ∙ ap (λ (t : TriangleSet). setOutput (n start) t (start .args .method) (start .args .basis) (zeros 1560)) known-is
 
 -- the cut set is accepted
 module _ (c : tie.Else1) where

@@ -75,13 +75,26 @@ module _ (n : ℕ) (s : TriangleSet) (p : List ℤ) (method basis : ℕ) (before
       ∙ getD-tabulate (size n) (entry n s p method basis) e (pos 0) l
 
   module _ (i j : ℕ) (least : 2 ≤ n) (few : n ≤ 20) (h : 1 ≤ i) (l : i ≤ n) (u : j < n) where
+    abbrev year : Bool
+    year = eqb (yearOf n (placeOf n i j)) i
+
+    abbrev delay : Bool
+    delay = eqb (delayOf n (placeOf n i j)) j
+
+    abbrev next-year : Bool
+    next-year = eqb (yearOf n (placeOf n i j + 1)) i
+
     agreed : (yearOf n (placeOf n i j) ≡ i) × (delayOf n (placeOf n i j) ≡ j) × (yearOf n (placeOf n i j + 1) ≡ i) × (delayOf n (placeOf n i j + 1) ≡ j)
     unfolding placeAgrees
     agreed =
         let a = place-agrees n i j least few h l u in
-        let b = and-left _ _ a in
-        let c = and-left _ _ b in
-        (eqb-true _ i (and-left _ _ c), eqb-true _ j (and-right (eqb (yearOf n (placeOf n i j)) i) _ c), eqb-true _ i (and-right (eqb (yearOf n (placeOf n i j)) i && eqb (delayOf n (placeOf n i j)) j) _ b), eqb-true _ j (and-right (eqb (yearOf n (placeOf n i j)) i && eqb (delayOf n (placeOf n i j)) j && eqb (yearOf n (placeOf n i j + 1)) i) _ a))
+        let b = and-left (year && delay && next-year) _ a in
+        let c = and-left (year && delay) next-year b in (
+          eqb-true _ i (and-left year delay c),
+          eqb-true _ j (and-right year delay c),
+          eqb-true _ i (and-right (year && delay) next-year b),
+          eqb-true _ j (and-right (year && delay && next-year) _ a),
+        )
 
     pub rbns-at : at (outputFrom n s p method basis before) (placeOf n i j) ≡ rbns n s p method basis i j
     unfolding entry

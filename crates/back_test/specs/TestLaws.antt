@@ -1,0 +1,137 @@
+-- Laws of the back-test: of a set, from its forecast and its errors; of a file, its refusal question by question. Assumes nothing.
+use mathlib.Core.Path.{_≡_, _∙_, ap}
+use mathlib.Core.Bool.{true, false, and-false}
+use mathlib.Core.List.{List, [], _∷_, _++_, append-assoc}
+use Prim.Native.Nat.{ℕ, suc, _+_, _-_, _≤_, _<_}
+use native.Mathlib.Omega.{arith}
+use borrow.Author.Tests.{ne-eqb, le-leb, lt-leb}
+use lib.Dec.{leb}
+use lib.IntN.{ℤ}
+use lib.ListN.{length}
+use Rattle.model.specs.Records.{cell, setOf, hasIncurred}
+use Rattle.model.specs.Delays.{delaysOf}
+use Rattle.model.specs.Cells.{size, outputFrom}
+use Rattle.model.specs.BackTest.{cutTo, gap, cellNumber, errorByCell, errorByYear, errorInAll}
+use Rattle.model.specs.Questions.{Question, q6, q8, firstNo, ofFile, ofForecast}
+use Rattle.model.specs.QuestionsLaws.{yes-first, no-first}
+use Rattle.model.specs.Calls.{zeros, readRefusal, backTestRefusal, backTestOf, backTestAnswer}
+use Rattle.model.specs.declared.TriangleSet.{TriangleSet}
+use Rattle.chain_ladder.specs.Accepted.{file-no, file-yes}
+use Rattle.chain_ladder.specs.Valid.{Valid, few, paid-small}
+use Rattle.forecast.specs.Prepared.{setRefusal, setOutput}
+use Rattle.forecast.specs.SmallEntries.{output-small}
+use Rattle.back_test.specs.Gaps.{Forecast, gaps}
+use Rattle.back_test.specs.GapsLaws.{gap-is, gaps-at, size-small}
+use Rattle.back_test.specs.ErrorsLaws.{same-by-cell, same-by-year, same-in-all}
+use Rattle.back_test.specs.CutLaws as CutLaws
+use Rattle.back_test.specs.SetTest.{refusedTest, setTest}
+
+-- ---- of a set
+module _ (m : ℕ) (s : TriangleSet) (c method basis : ℕ) where
+  abbrev n : ℕ
+  n = m - c
+
+  abbrev known : TriangleSet
+  known = cutTo n s
+
+  pub test-no : (k : ℕ) → (k ≡ 0 → ⊥) → setRefusal n known method ≡ k → setTest m s c method basis ≡ refusedTest k
+  unfolding setTest
+  test-no k o e = rw (e, ne-eqb k 0 o)
+
+  module _ (valid : Valid m s) (six : q6 (s .three) method basis ≡ true) (some : 1 ≤ c) (most : c + 2 ≤ m) where
+    pub sizes : (2 ≤ n) × (n ≤ 20) × (c ≤ 20)
+    sizes = let f = few m s valid in (omega arith, omega arith, omega arith)
+
+    pub known-valid : Valid n known
+    known-valid = CutLaws.cut-valid m n s valid (sizes .0) (omega arith)
+
+    pub known-six : q6 (known .three) method basis ≡ true
+    unfolding cutTo
+    known-six = six
+
+    pub room : size n ≤ 1560
+    room = size-small n (sizes .1)
+
+    module _ (accepted : setRefusal n known method ≡ 0) (out : List ℤ) (out-is : out ≡ setOutput n known method basis (zeros 1560)) where
+      written : out ≡ outputFrom n known (delaysOf n known) method basis (zeros 1560)
+      unfolding setOutput
+      written = out-is ∙ rw accepted
+
+      pub forecast-so : length out ≡ 1560 → Forecast m n out (s .paid)
+      forecast-so l = record {
+        least = sizes .0;
+        less = omega arith;
+        few = few m s valid;
+        room = omega (arith, room);
+        entries = rw written (output-small n known method basis known-valid known-six accepted (zeros 1560));
+        cells = paid-small m s valid .cells;
+      }
+
+      -- the gaps as they are made, and document 01's
+      abbrev made : ℕ → ℕ → ℤ
+      made = cell (gaps m n out (s .paid))
+
+      abbrev meant : ℕ → ℕ → ℤ
+      meant = gap m n s (delaysOf n known) method basis
+
+      same : (k j : ℕ) → k < n → j < n → made (suc k) j ≡ meant (suc k) j
+      same k j h l =
+          gaps-at m n out (s .paid) k j (omega (arith, sizes .1)) (omega (arith, sizes .1))
+          ∙ rw written (gap-is m n s (delaysOf n known) method basis (zeros 1560) (suc k) j (sizes .0) (sizes .1) (omega arith))
+
+      pub test-yes : {d : List ℤ} {cells cellwise yearwise overall : ℕ} → d ≡ gaps m n out (s .paid) → cells ≡ cellNumber c n
+          → cellwise ≡ errorByCell n (cell d) → yearwise ≡ errorByYear n c (cell d) → overall ≡ errorInAll n (cell d)
+          → record { refusal = 0; cells = cells; cellwise = cellwise; yearwise = yearwise; overall = overall } ≡ setTest m s c method basis
+      unfolding setTest backTestOf
+      test-yes d-is a b y t = rw (a, b, y, t, d-is, same-by-cell n made meant same, same-by-year n made meant same c, same-in-all n made meant same, accepted)
+
+-- ---- of a file: the refusal, question by question
+module _ (m : ℕ) (f : List ℕ) (c method basis : ℕ) where
+  abbrev s : TriangleSet
+  s = setOf m f
+
+  abbrev cutSet : TriangleSet
+  cutSet = cutTo (m - c) s
+
+  abbrev refusal : ℕ
+  refusal = backTestRefusal m f c method basis
+
+  after : List Question
+  after = (6, q6 (hasIncurred m f) method basis) ∷ (8, q8 m c) ∷ ofForecast (m - c) cutSet (delaysOf (m - c) cutSet) method
+
+  in-order : refusal ≡ firstNo (ofFile m f ++ after)
+  unfolding backTestRefusal after
+  in-order = ap firstNo (append-assoc (ofFile m f) ((6, q6 (hasIncurred m f) method basis) ∷ (8, q8 m c) ∷ []) (ofForecast (m - c) cutSet (delaysOf (m - c) cutSet) method))
+
+  pub refused : (k : ℕ) → (k ≡ 0 → ⊥) → refusal ≡ k → backTestAnswer m f c method basis ≡ refusedTest k
+  unfolding backTestAnswer
+  refused k o e = rw (e, ne-eqb k 0 o)
+
+  pub by-file : (readRefusal m f ≡ 0 → ⊥) → refusal ≡ readRefusal m f
+  by-file o = in-order ∙ file-no m f after o
+
+  module _ (read : readRefusal m f ≡ 0) where
+    pub by-method : q6 (hasIncurred m f) method basis ≡ false → refusal ≡ 6
+    unfolding after
+    by-method e = in-order ∙ file-yes m f after read ∙ no-first 6 _ _ e
+
+    module _ (six : q6 (hasIncurred m f) method basis ≡ true) where
+      by-cut : q8 m c ≡ false → refusal ≡ 8
+      unfolding after
+      by-cut e = in-order ∙ file-yes m f after read ∙ yes-first 6 _ _ six ∙ no-first 8 _ _ e
+
+      pub none-cut : c < 1 → refusal ≡ 8
+      unfolding q8
+      none-cut h = by-cut (rw (lt-leb 1 c h))
+
+      pub much-cut : m < c + 2 → refusal ≡ 8
+      unfolding q8
+      much-cut h = by-cut (rw (lt-leb (c + 2) m h) (and-false (leb 1 c)))
+
+      by-set : 1 ≤ c → c + 2 ≤ m → refusal ≡ setRefusal (m - c) cutSet method
+      unfolding after setRefusal q8
+      by-set h l = in-order ∙ file-yes m f after read ∙ yes-first 6 _ _ six ∙ yes-first 8 _ _ (rw (le-leb 1 c h, le-leb (c + 2) m l))
+
+      pub tested : 1 ≤ c → c + 2 ≤ m → setTest m s c method basis ≡ backTestAnswer m f c method basis
+      unfolding setTest backTestAnswer
+      tested h l = rw (by-set h l)

@@ -7,9 +7,8 @@ use native.Mathlib.Omega.{arith}
 use lib.IntN.{ℤ, pos}
 use mir.Facts.{toZ-ofZ}
 use Rattle.model.specs.Lists.{listed}
-use Rattle.model.specs.ListsLaws.{listed-none, listed-next}
+use Rattle.model.specs.ListsLaws.{listed-none, listed-next, listed-whole}
 use Rattle.model.specs.Records.{inside, cell, triangle}
-use Rattle.triangles.specs.Stores.{listed-whole}
 use Rattle.back_test.proofs.cut.cut_triangle.Statement.{statement}
 use Rattle.back_test.proofs.cut.cut_triangle.Tie as tie
 

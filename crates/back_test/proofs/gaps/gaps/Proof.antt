@@ -5,8 +5,7 @@ use native.Mathlib.Omega.{arith}
 use lib.IntN.{pos}
 use mir.Facts.{toZ-ofZ}
 use Rattle.model.specs.Lists.{listed}
-use Rattle.model.specs.ListsLaws.{listed-none, listed-next}
-use Rattle.triangles.specs.Stores.{listed-whole}
+use Rattle.model.specs.ListsLaws.{listed-none, listed-next, listed-whole}
 use Rattle.back_test.specs.Gaps as Gaps
 use Rattle.back_test.specs.Gaps.{gapFrom}
 use Rattle.back_test.proofs.gaps.gaps.Statement.{statement}

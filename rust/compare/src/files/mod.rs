@@ -1,5 +1,6 @@
 //! The calls that take a file.
 
+mod claim_costs;
 mod delays;
 mod forecast;
 mod reader;
@@ -11,10 +12,11 @@ use reference::generate::{any_set, case, shuffled_file, Case, Random};
 /// A call on a case; says whether it was accepted.
 type Call = fn(u64, &Case) -> Result<bool, Difference>;
 
-const CALLS: [(&str, Call); 4] = [
+const CALLS: [(&str, Call); 5] = [
     ("read", reader::compare),
     ("shares", shares::compare),
     ("delays", delays::compare),
+    ("claim costs", claim_costs::compare),
     ("forecast", forecast::compare),
 ];
 
@@ -65,6 +67,6 @@ fn arguments(seed: u64, case: &Case) -> String {
 }
 
 /// A list of fixed size.
-fn fixed<const N: usize>(list: &mut [i64]) -> &mut [i64; N] {
+fn fixed<W, const N: usize>(list: &mut [W]) -> &mut [W; N] {
     list.try_into().expect("a list of that length")
 }

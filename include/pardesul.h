@@ -1,8 +1,8 @@
 /* Claims reserving for closing accounts: the calls of the static library libc_api.a, which `rt staticlib c_api` writes. Each is proved to
  * answer as stated here.
  *
- * The answer is the refusal number: 0 where the call is accepted, else the number of the first question that got a no. A refusal leaves
- * lent memory as it was.
+ * The answer is the refusal number, but for pardesul_respond: 0 where the call is accepted, else the number of the first question that got a
+ * no. A refusal leaves lent memory as it was.
  *
  *    1  m is not 2 to 20
  *    2  the length is not that of a set
@@ -11,6 +11,7 @@
  *    5  a value is out of range: counts 0 to 10^7, paid 0 to 10^10, incurred -10^10 to 10^10
  *    6  there is no such method or basis, or the method needs incurred and there is none
  *    7  the output is too short
+ *    8  (back-test) the cut is not 1 to m - 2
  *    9  a row has no count above zero
  *   10  a paid B(j) is zero
  *   11  g(0) of counts or of paid is below 10^6
@@ -51,6 +52,14 @@ extern "C" {
 /* The calendar years of a tally; year t stands at place t - 1. */
 #define PARDESUL_YEARS 38
 
+/* What a year's inflation is. */
+#define PARDESUL_BASE_YEAR 0
+#define PARDESUL_NO_PAYMENTS_YET 1
+#define PARDESUL_RATIO 2
+
+/* The bytes of the longest text of `closing`. */
+#define PARDESUL_TEXT 2573
+
 /* Reads a file of file_length bytes. counts, paid and incurred have 400 places each and get the set's cells, with zeros in the other places; *three
  * becomes 1 where incurred is there, else 0, and incurred is then all zeros. Refuses with 1 to 5. */
 uint64_t pardesul_read_set(const uint8_t *file, size_t file_length, size_t m, uint8_t *three, int64_t *counts, int64_t *paid, int64_t *incurred);
@@ -67,14 +76,30 @@ uint64_t pardesul_shares(const uint8_t *file, size_t file_length, size_t m, int6
 /* The delays in billionths, p(l) at place l of 20; one may be negative. Refuses with 1 to 5 and 9 to 12. */
 uint64_t pardesul_delays(const uint8_t *file, size_t file_length, size_t m, int64_t *p);
 
+/* The claim costs: mu, the mean cost of year 1; factors, f(j) of paid at place j - 1 of 20; and the inflation of year i at place i - 1 of 20: what it
+ * is, in kinds, and its ratio to mu, in ratios. Factors past the last one are 0, ratios are 0 where there is none, and kinds past the last year are
+ * PARDESUL_NO_PAYMENTS_YET. Refuses with 1 to 5 and 9 to 11. */
+uint64_t pardesul_claim_costs(const uint8_t *file, size_t file_length, size_t m, double *mu, double *factors, uint8_t *kinds, double *ratios);
+
 /* The forecast: PARDESUL_ENTRIES(m) entries at the front of out, which has out_length places; those past them stay. The left over of year i goes to
  * place i - 1 of leftovers, which has 20. method: 0 DCL, 1 BDCL, 2 IDCL; basis: 0 actual, 1 estimated counts. Refuses with 1 to 7 and 9 to 14. */
 uint64_t pardesul_forecast(const uint8_t *file, size_t file_length, size_t m, uint64_t method, uint64_t basis, int64_t *out, size_t out_length,
                            int64_t *leftovers);
 
+/* The back-test: the set without its latest c calendar years is forecast, and RBNS + IBNR held against what was paid in them. cells is the number of
+ * cells compared; cellwise, yearwise and overall are the sums of absolute errors by cell, by calendar year and of the total. Refuses with 1 to 6, 8,
+ * and 9 to 14 of the set that is left. */
+uint64_t pardesul_back_test(const uint8_t *file, size_t file_length, size_t m, uint64_t method, uint64_t basis, size_t c, uint64_t *cells,
+                            uint64_t *cellwise, uint64_t *yearwise, uint64_t *overall);
+
 /* Adds a cell to the sums of calendar year `year`, reported to rbns and unreported to ibnr, 38 places each. For a year outside 1 to 38, or where a sum
  * would leave the signed 64-bit numbers, both stay as they are. */
 void pardesul_tally_add(int64_t *rbns, int64_t *ibnr, uint64_t year, int64_t reported, int64_t unreported);
+
+/* The text that `closing` prints: input is its whole standard input, a line "m method basis" and then the file. The text goes to the front of out,
+ * which has out_length bytes; those past it stay. Hands back the text's length, or 0 where out is too short, which then stays as it was. The text
+ * is a line for each calendar year and one for the totals, or "refused n" and a newline, with n 1 to 6 or 9 to 14. */
+size_t pardesul_respond(const uint8_t *input, size_t input_length, uint8_t *out, size_t out_length);
 
 #ifdef __cplusplus
 }

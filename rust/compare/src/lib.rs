@@ -5,6 +5,7 @@
 mod difference;
 mod files;
 mod memory;
+mod respond;
 mod tally;
 mod writer;
 
@@ -12,7 +13,7 @@ pub use difference::Difference;
 
 use std::collections::BTreeMap;
 
-/// How many cases each call accepted.
+/// How many cases each call accepted; of the answers to inputs, how many were each of the texts.
 pub type Accepted = BTreeMap<&'static str, u64>;
 
 /// A comparison of one or several calls on the case of a seed.
@@ -22,7 +23,7 @@ pub struct Comparison {
 }
 
 /// All comparisons.
-pub const COMPARISONS: [Comparison; 4] = [
+pub const COMPARISONS: [Comparison; 6] = [
     Comparison {
         name: "files",
         of: files::of_case,
@@ -38,6 +39,14 @@ pub const COMPARISONS: [Comparison; 4] = [
     Comparison {
         name: "tally",
         of: tally::of_case,
+    },
+    Comparison {
+        name: "inputs",
+        of: respond::of_case,
+    },
+    Comparison {
+        name: "damaged inputs",
+        of: respond::of_damaged,
     },
 ];
 

@@ -2,23 +2,83 @@
 
 use crate::difference::{same_list, Difference};
 use reference::generate::Random;
+use std::fmt::Debug;
 
 /// Words before, between and behind the lists.
 const GAP: usize = 4;
 
-/// Lists of any numbers in one memory.
-pub struct Memory {
-    lengths: Vec<usize>,
-    before: Vec<i64>,
-    now: Vec<i64>,
+/// A word of lent memory.
+pub trait Word: Copy {
+    /// What two words are compared by.
+    type Bits: PartialEq + Debug;
+
+    /// The word of these bits, as many of them as it has.
+    fn of(number: u64) -> Self;
+
+    fn bits(self) -> Self::Bits;
 }
 
-impl Memory {
+impl Word for i64 {
+    type Bits = i64;
+
+    fn of(number: u64) -> i64 {
+        number as i64
+    }
+
+    fn bits(self) -> i64 {
+        self
+    }
+}
+
+impl Word for u64 {
+    type Bits = u64;
+
+    fn of(number: u64) -> u64 {
+        number
+    }
+
+    fn bits(self) -> u64 {
+        self
+    }
+}
+
+impl Word for u8 {
+    type Bits = u8;
+
+    fn of(number: u64) -> u8 {
+        number as u8
+    }
+
+    fn bits(self) -> u8 {
+        self
+    }
+}
+
+impl Word for f64 {
+    type Bits = u64;
+
+    fn of(number: u64) -> f64 {
+        f64::from_bits(number)
+    }
+
+    fn bits(self) -> u64 {
+        self.to_bits()
+    }
+}
+
+/// Lists of any words in one memory.
+pub struct Memory<W> {
+    lengths: Vec<usize>,
+    before: Vec<W>,
+    now: Vec<W>,
+}
+
+impl<W: Word> Memory<W> {
     /// Lists of these lengths.
-    pub fn new(seed: u64, lengths: &[usize]) -> Memory {
+    pub fn new(seed: u64, lengths: &[usize]) -> Memory<W> {
         let mut random = Random::new(seed);
         let words = GAP + lengths.iter().map(|length| length + GAP).sum::<usize>();
-        let before: Vec<i64> = (0..words).map(|_| random.number() as i64).collect();
+        let before: Vec<W> = (0..words).map(|_| W::of(random.number())).collect();
         Memory {
             lengths: lengths.to_vec(),
             now: before.clone(),
@@ -27,7 +87,7 @@ impl Memory {
     }
 
     /// The lists, to be lent.
-    pub fn lists<const N: usize>(&mut self) -> [&mut [i64]; N] {
+    pub fn lists<const N: usize>(&mut self) -> [&mut [W]; N] {
         let mut rest = &mut self.now[..];
         let mut lists = Vec::new();
         for &length in &self.lengths {
@@ -35,7 +95,9 @@ impl Memory {
             lists.push(list);
             rest = behind;
         }
-        lists.try_into().expect("as many lists as lengths")
+        lists
+            .try_into()
+            .unwrap_or_else(|_| panic!("as many lists as lengths"))
     }
 
     /// Whether the memory is as it was, but for what an accepted call hands back at the front of
@@ -43,7 +105,7 @@ impl Memory {
     pub fn holds(
         &self,
         what: &str,
-        handed_back: Option<&[&[i64]]>,
+        handed_back: Option<&[&[W]]>,
         case: impl Fn() -> String,
     ) -> Result<(), Difference> {
         let mut wanted = self.before.clone();
@@ -52,7 +114,13 @@ impl Memory {
             wanted[at..at + list.len()].copy_from_slice(list);
             at += length + GAP;
         }
-        same_list(&format!("{what}, memory"), &self.now, &wanted, case)
+        let bits = |words: &[W]| words.iter().map(|word| word.bits()).collect::<Vec<_>>();
+        same_list(
+            &format!("{what}, memory"),
+            &bits(&self.now),
+            &bits(&wanted),
+            case,
+        )
     }
 }
 
@@ -60,7 +128,7 @@ impl Memory {
 mod tests {
     use super::Memory;
 
-    fn differs(memory: &Memory, handed_back: Option<&[&[i64]]>) -> bool {
+    fn differs(memory: &Memory<i64>, handed_back: Option<&[&[i64]]>) -> bool {
         memory.holds("test", handed_back, String::new).is_err()
     }
 
@@ -79,9 +147,19 @@ mod tests {
     #[test]
     fn words_around_the_lists_have_to_stay() {
         for at in [3, 7, 10, 13, 16] {
-            let mut memory = Memory::new(2, &[3, 2]);
+            let mut memory = Memory::<i64>::new(2, &[3, 2]);
             memory.now[at] ^= 1;
             assert!(differs(&memory, None), "word {at}");
         }
+    }
+
+    /// A zero with another sign is another word.
+    #[test]
+    fn floats_are_compared_by_their_bits() {
+        let mut memory = Memory::<f64>::new(3, &[1]);
+        let [list] = memory.lists();
+        list[0] = -0.0;
+        assert!(memory.holds("test", Some(&[&[0.0]]), String::new).is_err());
+        assert!(memory.holds("test", Some(&[&[-0.0]]), String::new).is_ok());
     }
 }

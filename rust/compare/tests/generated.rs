@@ -30,7 +30,9 @@ fn files() {
         ("read", 2_000, 500),
         ("shares", 1_500, 700),
         ("delays", 1_000, 700),
+        ("claim costs", 1_500, 700),
         ("forecast", 800, 900),
+        ("back-test", 500, 900),
     ];
     the_same("files", &calls);
 }
@@ -48,4 +50,42 @@ fn writer() {
 #[test]
 fn tally() {
     the_same("tally", &[]);
+}
+
+/// Every refusal that `closing` can print, and a page of every method and basis.
+#[test]
+fn inputs() {
+    let texts = [
+        ("not refused", 1_000, 1_000),
+        ("refused 1", 1, 0),
+        ("refused 2", 1, 0),
+        ("refused 3", 1, 0),
+        ("refused 4", 1, 0),
+        ("refused 5", 1, 0),
+        ("refused 6", 1, 0),
+        ("refused 9", 1, 0),
+        ("refused 10", 1, 0),
+        ("refused 11", 1, 0),
+        ("refused 12", 1, 0),
+        ("refused 13", 1, 0),
+        ("refused 14", 1, 0),
+        ("page of method 0, basis 0", 100, 0),
+        ("page of method 0, basis 1", 100, 0),
+        ("page of method 1, basis 0", 100, 0),
+        ("page of method 1, basis 1", 100, 0),
+        ("page of method 2, basis 0", 100, 0),
+        ("page of method 2, basis 1", 100, 0),
+        ("too short", 500, 1_500),
+    ];
+    the_same("inputs", &texts);
+}
+
+#[test]
+fn damaged_inputs() {
+    let texts = [
+        ("not refused", 20, 1_000),
+        ("refused 1", 500, 100),
+        ("too short", 500, 1_500),
+    ];
+    the_same("damaged inputs", &texts);
 }

@@ -1,5 +1,6 @@
 //! The calls of the static library over lent memory, one function for each. The answer is the
-//! refusal number, 0 where the call is accepted; a refusal leaves lent memory as it was.
+//! refusal number, but for [`respond`]: 0 where the call is accepted; a refusal leaves lent memory as
+//! it was.
 
 mod foreign {
     extern "C" {
@@ -37,6 +38,15 @@ mod foreign {
             m: usize,
             p: *mut [i64; 20],
         ) -> u64;
+        pub fn pardesul_claim_costs(
+            file: *const u8,
+            file_len: usize,
+            m: usize,
+            mu: *mut f64,
+            factors: *mut [f64; 20],
+            kinds: *mut [u8; 20],
+            ratios: *mut [f64; 20],
+        ) -> u64;
         pub fn pardesul_forecast(
             file: *const u8,
             file_len: usize,
@@ -47,6 +57,18 @@ mod foreign {
             out_len: usize,
             leftovers: *mut [i64; 20],
         ) -> u64;
+        pub fn pardesul_back_test(
+            file: *const u8,
+            file_len: usize,
+            m: usize,
+            method: u64,
+            basis: u64,
+            c: usize,
+            cells: *mut u64,
+            cellwise: *mut u64,
+            yearwise: *mut u64,
+            overall: *mut u64,
+        ) -> u64;
         pub fn pardesul_tally_add(
             rbns: *mut [i64; 38],
             ibnr: *mut [i64; 38],
@@ -54,6 +76,12 @@ mod foreign {
             reported: i64,
             unreported: i64,
         );
+        pub fn pardesul_respond(
+            input: *const u8,
+            input_len: usize,
+            out: *mut u8,
+            out_len: usize,
+        ) -> usize;
     }
 }
 
@@ -152,6 +180,31 @@ pub fn delays(file: &[u8], m: usize, p: &mut [i64; 20]) -> u64 {
     unsafe { foreign::pardesul_delays(file.as_ptr(), file.len(), m, p) }
 }
 
+/// The claim costs: mu; f(j) of paid at place j - 1, and zeros in the other places; of year i's
+/// inflation at place i - 1 the kind, 0 the base year, 1 no payments yet, 2 a ratio, and the ratio, 0
+/// where there is none. The kind is 1 in the other places.
+///
+/// ```
+/// use pardesul::calls::claim_costs;
+///
+/// let (mut mu, mut factors, mut kinds, mut ratios) = (9.0, [9.0; 20], [9; 20], [9.0; 20]);
+/// assert_eq!(claim_costs(&[], 2, &mut mu, &mut factors, &mut kinds, &mut ratios), 2);
+/// assert_eq!((mu, factors, kinds, ratios), (9.0, [9.0; 20], [9; 20], [9.0; 20]));
+/// ```
+pub fn claim_costs(
+    file: &[u8],
+    m: usize,
+    mu: &mut f64,
+    factors: &mut [f64; 20],
+    kinds: &mut [u8; 20],
+    ratios: &mut [f64; 20],
+) -> u64 {
+    // SAFETY: as above.
+    unsafe {
+        foreign::pardesul_claim_costs(file.as_ptr(), file.len(), m, mu, factors, kinds, ratios)
+    }
+}
+
 /// The forecast: 2m(2m-1) entries at the front of `out`, where those past them stay, and the left
 /// over of year i at place i - 1. Entry 2 × ((i-1) × (2m-1) + j) is RBNS of year i at delay j, the
 /// next one IBNR. Methods 0 DCL, 1 BDCL, 2 IDCL; bases 0 actual, 1 estimated counts.
@@ -187,6 +240,34 @@ pub fn forecast(
     }
 }
 
+/// The back-test with the latest `c` calendar years cut off: the number of cells compared, and the
+/// sums of absolute errors by cell, by calendar year and of the total, in this order.
+///
+/// ```
+/// use pardesul::calls::back_test;
+///
+/// let mut sums = [9; 4];
+/// assert_eq!(back_test(&[], 3, 0, 1, 1, &mut sums), 2);
+/// assert_eq!(sums, [9; 4]);
+/// ```
+pub fn back_test(
+    file: &[u8],
+    m: usize,
+    method: u64,
+    basis: u64,
+    c: usize,
+    sums: &mut [u64; 4],
+) -> u64 {
+    let [cells, cellwise, yearwise, overall] = sums;
+    let (at, len) = (file.as_ptr(), file.len());
+    // SAFETY: as above.
+    unsafe {
+        foreign::pardesul_back_test(
+            at, len, m, method, basis, c, cells, cellwise, yearwise, overall,
+        )
+    }
+}
+
 /// Adds a cell to the sums of its calendar year, which stands at place `year` - 1. A year outside 1
 /// to 38, or a sum past 64 bits, changes nothing.
 ///
@@ -207,4 +288,21 @@ pub fn tally_add(
 ) {
     // SAFETY: as above.
     unsafe { foreign::pardesul_tally_add(rbns, ibnr, year, reported, unreported) }
+}
+
+/// Writes the text that `closing` prints for the input to the front of `out`, where the bytes past it
+/// stay, and hands back its length; hands back 0 and writes nothing where `out` is too short.
+///
+/// ```
+/// use pardesul::calls::respond;
+///
+/// let mut out = [9; 12];
+/// assert_eq!(respond(b"2 0 1", &mut out), 10);
+/// assert_eq!(&out, b"refused 1\n\x09\x09");
+/// assert_eq!(respond(b"2 0 1\n", &mut out[..9]), 0);
+/// assert_eq!(&out, b"refused 1\n\x09\x09");
+/// ```
+pub fn respond(input: &[u8], out: &mut [u8]) -> usize {
+    // SAFETY: as above.
+    unsafe { foreign::pardesul_respond(input.as_ptr(), input.len(), out.as_mut_ptr(), out.len()) }
 }

@@ -41,13 +41,19 @@
 //!
 //! [`calls`] has the calls themselves, over memory that the caller lends.
 
+mod back_test;
 pub mod calls;
+mod claim_costs;
+mod closing;
 mod forecast;
 mod refusal;
 mod shares;
 mod tally;
 mod triangles;
 
+pub use back_test::{back_test, BackTest};
+pub use claim_costs::{claim_costs, ClaimCosts, Inflation};
+pub use closing::respond;
 pub use forecast::{forecast, Basis, Forecast, Method};
 pub use refusal::Refusal;
 pub use shares::{delays, shares, Shares};

@@ -1,5 +1,7 @@
 //! The calls that take a file.
 
+mod back_test;
+mod claim_costs;
 mod delays;
 mod forecast;
 mod reader;
@@ -11,11 +13,13 @@ use reference::generate::{any_set, case, shuffled_file, Case, Random};
 /// A call on a case; says whether it was accepted.
 type Call = fn(u64, &Case) -> Result<bool, Difference>;
 
-const CALLS: [(&str, Call); 4] = [
+const CALLS: [(&str, Call); 6] = [
     ("read", reader::compare),
     ("shares", shares::compare),
     ("delays", delays::compare),
+    ("claim costs", claim_costs::compare),
     ("forecast", forecast::compare),
+    ("back-test", back_test::compare),
 ];
 
 fn compare(seed: u64, case: &Case, accepted: &mut Accepted) -> Result<(), Difference> {
@@ -65,6 +69,6 @@ fn arguments(seed: u64, case: &Case) -> String {
 }
 
 /// A list of fixed size.
-fn fixed<const N: usize>(list: &mut [i64]) -> &mut [i64; N] {
+fn fixed<W, const N: usize>(list: &mut [W]) -> &mut [W; N] {
     list.try_into().expect("a list of that length")
 }

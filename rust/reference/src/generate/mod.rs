@@ -153,12 +153,13 @@ pub fn writer_case(seed: u64) -> WriterCase {
     }
 }
 
-/// An input of `closing`: the case's first line, now and then a wrong one, and its file.
+/// An input of `closing`: the case's first line, now and then a wrong one, and its file; rarely
+/// nothing at all.
 pub fn closing_input(seed: u64) -> Vec<u8> {
     let mut random = Random::new(seed ^ (1 << 40));
     let case = case(seed);
     let (m, method, basis) = (case.m, case.method, case.basis);
-    let line = match random.below(40) {
+    let line = match random.below(80) {
         0 => format!("{m} {method}  {basis}\n"),
         1 => format!(" {m} {method} {basis}\n"),
         2 => format!("{m} {method} {basis} \n"),
@@ -173,6 +174,12 @@ pub fn closing_input(seed: u64) -> Vec<u8> {
         11 => format!("{m} {method} {basis} 0\n"),
         12 => format!("+{m} {method} {basis}\n"),
         13 | 14 => format!("{m:04} {method:02} {basis:03}\n"),
+        15 => format!("{m} {method:05} {basis}\n"),
+        16 => format!("{m} {method} {basis:05}\n"),
+        17 => format!("{m}  {method} {basis}\n"),
+        18 => format!("m {method} {basis}\n"),
+        19 => format!("{m} {method} {basis}x\n"),
+        20 => return Vec::new(),
         _ => format!("{m} {method} {basis}\n"),
     };
     [line.as_bytes(), &case.file].concat()

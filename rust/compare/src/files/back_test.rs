@@ -1,0 +1,29 @@
+//! The back-test.
+
+use super::{arguments, fixed};
+use crate::difference::{same, Difference};
+use crate::memory::Memory;
+use pardesul::calls;
+use reference::generate::Case;
+
+pub fn compare(seed: u64, case: &Case) -> Result<bool, Difference> {
+    let text = || arguments(seed, case);
+    let (file, m, c) = (&case.file, case.m as usize, case.cut as usize);
+    let wanted = reference::back_test(file, case.m, case.cut, case.method, case.basis);
+
+    let mut memory = Memory::<u64>::new(seed, &[4]);
+    let [sums] = memory.lists().map(fixed);
+    let refusal = calls::back_test(file, m, case.method, case.basis, c, sums);
+    same(
+        "back-test, refusal",
+        Some(refusal).filter(|&n| n != 0),
+        wanted.as_ref().err().copied(),
+        text,
+    )?;
+    let list = wanted
+        .ok()
+        .map(|test| [test.cells, test.by_cell, test.by_year, test.in_all]);
+    let lists = list.as_ref().map(|list| [&list[..]]);
+    memory.holds("back-test", lists.as_ref().map(|lists| &lists[..]), text)?;
+    Ok(refusal == 0)
+}

@@ -1,0 +1,60 @@
+//! The claim costs.
+
+use crate::{calls, Refusal};
+
+/// A year's inflation against year 1.
+#[derive(Clone, Copy, Debug, PartialEq)]
+pub enum Inflation {
+    /// Year 1.
+    BaseYear,
+    NoPaymentsYet,
+    /// The year's mean cost divided by mu.
+    Ratio(f64),
+}
+
+/// The claim costs of a file.
+#[derive(Clone, Debug, PartialEq)]
+pub struct ClaimCosts {
+    /// The mean cost of year 1.
+    pub mu: f64,
+    /// The factors of paid, f(1) to f(m - 1).
+    pub factors: Vec<f64>,
+    /// The inflation of each year, year 1 first.
+    pub inflations: Vec<Inflation>,
+}
+
+/// The claim costs of a file. Refuses with 1 to 5 and 9 to 11.
+///
+/// ```
+/// use pardesul::{claim_costs, Inflation, Triangle, TriangleSet};
+///
+/// let counts = Triangle::from_rows(&[&[80, 20], &[90]]);
+/// let paid = Triangle::from_rows(&[&[600, 400], &[660]]);
+/// let set = TriangleSet { m: 2, counts, paid, incurred: None };
+/// let costs = claim_costs(&set.to_file()?, 2)?;
+/// assert_eq!((costs.mu, costs.factors), (10.0, vec![1_000.0 / 600.0]));
+/// let ratio = Inflation::Ratio(1_100.0 / 113.0 / 10.0);
+/// assert_eq!(costs.inflations, [Inflation::BaseYear, ratio]);
+/// # Ok::<(), pardesul::Refusal>(())
+/// ```
+pub fn claim_costs(file: &[u8], m: usize) -> Result<ClaimCosts, Refusal> {
+    let (mut mu, mut factors, mut kinds, mut ratios) = (0.0, [0.0; 20], [0; 20], [0.0; 20]);
+    Refusal::of(calls::claim_costs(
+        file,
+        m,
+        &mut mu,
+        &mut factors,
+        &mut kinds,
+        &mut ratios,
+    ))?;
+    let inflation = |year: usize| match kinds[year] {
+        0 => Inflation::BaseYear,
+        1 => Inflation::NoPaymentsYet,
+        _ => Inflation::Ratio(ratios[year]),
+    };
+    Ok(ClaimCosts {
+        mu,
+        factors: factors[..m - 1].to_vec(),
+        inflations: (0..m).map(inflation).collect(),
+    })
+}

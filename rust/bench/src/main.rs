@@ -30,11 +30,15 @@ fn main() {
                 forecasting(m, &file, method, basis);
             }
         }
+        costing(m, &file);
+        if m > 2 {
+            back_testing(m, &file);
+        }
     }
 }
 
-/// The file of a set of this size with incurred, its records in any order, that every method
-/// accepts.
+/// The file of a set of this size with incurred, its records in any order, that every method and
+/// the back-test accept.
 fn accepted_file(m: usize) -> Vec<u8> {
     let mut random = Random::new(m as u64);
     loop {
@@ -43,7 +47,10 @@ fn accepted_file(m: usize) -> Vec<u8> {
             continue;
         }
         let file = shuffled_file(&mut random, &set);
-        if (0..3).all(|method| plain::forecast(&file, m, method, 0, &mut [0; 1560]).is_ok()) {
+        let tested = m == 2 || plain::back_test(&file, m, 1, 0, 1).is_ok();
+        if tested
+            && (0..3).all(|method| plain::forecast(&file, m, method, 0, &mut [0; 1560]).is_ok())
+        {
             return file;
         }
     }
@@ -113,6 +120,40 @@ fn forecasting(m: usize, file: &[u8], method: u64, basis: u64) {
         || {
             let file = black_box(file);
             black_box(plain::forecast(file, m, method, basis, &mut plain_out)).ok();
+        },
+    );
+}
+
+fn costing(m: usize, file: &[u8]) {
+    let (mut mu, mut kinds, [mut factors, mut ratios]) = (0.0, [0; 20], [[0.0; 20]; 2]);
+    compare(
+        &format!("claim costs, m = {m}"),
+        || {
+            let file = black_box(file);
+            black_box(calls::claim_costs(
+                file,
+                m,
+                &mut mu,
+                &mut factors,
+                &mut kinds,
+                &mut ratios,
+            ));
+        },
+        || {
+            black_box(plain::claim_costs(black_box(file), m)).ok();
+        },
+    );
+}
+
+fn back_testing(m: usize, file: &[u8]) {
+    let mut sums = [0; 4];
+    compare(
+        &format!("back-test 0 1, m = {m}"),
+        || {
+            black_box(calls::back_test(black_box(file), m, 0, 1, 1, &mut sums));
+        },
+        || {
+            black_box(plain::back_test(black_box(file), m, 1, 0, 1)).ok();
         },
     );
 }

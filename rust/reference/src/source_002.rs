@@ -91,7 +91,7 @@ pub fn compare() -> Result<Comparison, Refusal> {
     let set = set();
     let m = set.m;
     let entries = forecast_set(&set, 0, 1)?.entries;
-    let exact: Vec<Fraction> = (1..m).map(|t| exact_year(&set, t)).collect();
+    let exact = exact_years();
     let total = exact
         .iter()
         .fold(Fraction::whole(Big::zero()), |sum, year| sum.plus(year));
@@ -111,6 +111,12 @@ pub fn compare() -> Result<Comparison, Refusal> {
             .map(|t| Fraction::whole(written(t)).distance(&exact[t - 1]))
             .collect(),
     })
+}
+
+/// The unrounded chain ladder of calendar years 1 to 9.
+pub fn exact_years() -> Vec<Fraction> {
+    let set = set();
+    (1..set.m).map(|t| exact_year(&set, t)).collect()
 }
 
 /// The unrounded chain ladder of calendar year t: H × (G(j) - G(j-1)) / S over i + j = m + t.

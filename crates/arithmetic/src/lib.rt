@@ -56,7 +56,7 @@ pub fn round_div(a: i64, b: i64) -> i64
 }
 
 // A number without its sign.
-fn magnitude(a: i64) -> u64
+pub fn magnitude(a: i64) -> u64
     requires { ⌜ natAbs a ≤ 9 * 10 ^ 18 ⌝ }
     ensures { λ m. ⌜ m ≡ natAbs a ⌝ }
 {

@@ -32,14 +32,6 @@ pub fn cell_number(c: usize, n: usize) -> u64
     out
 }
 
-// A number without its sign.
-fn magnitude(a: i64) -> u64
-    requires { ⌜ natAbs a ≤ 9 * 10 ^ 18 ⌝ }
-    ensures { λ r. ⌜ r ≡ natAbs a ⌝ }
-{
-    if a < 0 { (-a) as u64 } else { a as u64 }
-}
-
 // The absolute errors of the cells of row k + 1.
 fn row_error(d: &[i64; 400], n: usize, k: usize) -> u64
     requires { ⌜ SmallGaps (now d) × (n ≤ 20) × (k < 20) ⌝ }
@@ -49,7 +41,7 @@ fn row_error(d: &[i64; 400], n: usize, k: usize) -> u64
     let mut j = 0;
     while j < n {
         let x = d[20 * k + j];
-        let e = magnitude(x);
+        let e = arithmetic::magnitude(x);
         out = out + e;
         j += 1;
     }
@@ -110,7 +102,7 @@ pub fn error_by_year(d: &[i64; 400], n: usize, c: usize) -> u64
     let mut k = 0;
     while k < c {
         let x = year_gap(d, n, k + 1);
-        let e = magnitude(x);
+        let e = arithmetic::magnitude(x);
         out = out + e;
         k += 1;
     }
@@ -144,5 +136,5 @@ pub fn error_in_all(d: &[i64; 400], n: usize) -> u64
         out = out + x;
         k += 1;
     }
-    magnitude(out)
+    arithmetic::magnitude(out)
 }

@@ -9,12 +9,13 @@ use Rattle.model.specs.declared.YearInflation.{YearInflation}
 use Rattle.model.specs.declared.Inflation.{Inflation}
 use Rattle.model.specs.declared.Inflation.the-variants.{BaseYear, NoPaymentsYet, Ratio}
 
+-- "base year (row 1), no payments yet (U(i) = 0), or a ratio": the number that the C header gives each case
 unfoldable pub kindOf : Inflation → ℕ
 kindOf BaseYear = 0
 kindOf NoPaymentsYet = 1
 kindOf (Ratio x) = 2
 
--- 0 where there is none
+-- the ratio, 0 where there is none
 unfoldable pub ratioOf : Inflation → Float
 ratioOf BaseYear = noFloat
 ratioOf NoPaymentsYet = noFloat
@@ -24,6 +25,7 @@ ratioOf (Ratio x) = x
 abbrev pub inflationAt : List YearInflation → ℕ → Inflation
 inflationAt xs k = getD xs k (yearInflation BaseYear) .value
 
+-- year i's at place i - 1
 unfoldable pub kindsOf : List YearInflation → List ℕ
 kindsOf xs = tabulate 20 (λ k. kindOf (inflationAt xs k))
 

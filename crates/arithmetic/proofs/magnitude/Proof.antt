@@ -9,8 +9,7 @@ use mir.Val.{SFits}
 use mir.Facts.{toZ-ofZ}
 use borrow.Author.Needs.{needs}
 use Rattle.integers.specs.Parts.{_⩽_, _⋖_, ints}
-use Rattle.integers.specs.Order.{natAbs--ℤ}
-use Rattle.integers.specs.Order.{lt-yes, lt-no}
+use Rattle.integers.specs.Order.{natAbs--ℤ, lt-yes, lt-no}
 use Rattle.arithmetic.proofs.Words.{fits-abs}
 use Rattle.arithmetic.proofs.magnitude.Statement.{statement}
 use Rattle.arithmetic.proofs.magnitude.Tie as tie

@@ -1,35 +1,40 @@
--- The two numbers of a cell as one value.
+-- The two numbers of a cell as one value, and the entries of years.
 use Prim.Native.Nat.{ℕ, _+_, _-_, _*_, _/_, _%_}
 use mathlib.Core.Bool.{cond}
 use mathlib.Core.List.{List}
 use lib.Dec.{leb, eqb}
-use lib.IntN.{ℤ, pos}
+use lib.IntN.{ℤ, pos, _*ℤ_}
 use Rattle.model.specs.Lists.{at, tabulate}
-use Rattle.model.specs.Cells.{rbnsFrom, ibnrFrom, yearOf, delayOf}
+use Rattle.model.specs.Rounding.{S, r}
+use Rattle.model.specs.Cells.{pairs, rbnsFrom, yearOf, delayOf}
 use Rattle.cells.specs.declared.cell.Cell.{Cell}
 
--- RBNS and IBNR of cell (i,j), for the row base v, the weights s and b, and the delays p: "cells with i + j <= m are 0"
+-- the sums of b(k) × p(l) over the reporting delays k from c on, that with k + l = j at place j
+unfoldable pub sumsFrom : ℕ → ℕ → List ℤ → List ℤ → List ℤ
+sumsFrom m c b p = tabulate 39 (λ j. pairs m j (leb c) b p)
+
+-- RBNS and IBNR of cell (i,j), for the row base v, the weights s, the delays p and the sums u over the unreported claims: "cells with i + j <= m are 0"
 unfoldable pub cellOf : ℕ → ℤ → List ℤ → List ℤ → List ℤ → ℕ → ℕ → Cell
-cellOf m v s b p i j =
+cellOf m v s p u i j =
     record {
       rbns = cond (leb (i + j) m) (pos 0) (rbnsFrom m v s p i j);
-      ibnr = cond (leb (i + j) m) (pos 0) (ibnrFrom m v b p i j);
+      ibnr = cond (leb (i + j) m) (pos 0) (r (v *ℤ at u j) (S *ℤ S));
     }
 
 -- the first n entries of a year: for each delay RBNS and then IBNR
 unfoldable pub firstEntries : ℕ → ℤ → List ℤ → List ℤ → List ℤ → ℕ → ℕ → List ℤ
-firstEntries m v s b p i n =
-    tabulate n (λ e. cond (eqb (e % 2) 0) (cellOf m v s b p i (e / 2) .rbns) (cellOf m v s b p i (e / 2) .ibnr))
+firstEntries m v s p u i n =
+    tabulate n (λ e. cond (eqb (e % 2) 0) (cellOf m v s p u i (e / 2) .rbns) (cellOf m v s p u i (e / 2) .ibnr))
 
 -- all of them, for the delays 0 to 2m - 2
 abbrev pub yearEntries : ℕ → ℤ → List ℤ → List ℤ → List ℤ → ℕ → List ℤ
-yearEntries m v s b p i = firstEntries m v s b p i (2 * (2 * m - 1))
+yearEntries m v s p u i = firstEntries m v s p u i (2 * (2 * m - 1))
 
 -- entry e of a forecast: v holds the row bases, year i at place i - 1, and s gives a year's weights of the reported claims
 unfoldable pub entryAt : ℕ → List ℤ → (ℕ → List ℤ) → List ℤ → List ℤ → ℕ → ℤ
 entryAt m v s b p e =
     let i = yearOf m e in
-    let c = cellOf m (at v (i - 1)) (s i) b p i (delayOf m e) in
+    let c = cellOf m (at v (i - 1)) (s i) p (sumsFrom m (m - (i - 1)) b p) i (delayOf m e) in
     cond (eqb (e % 2) 0) (c .rbns) (c .ibnr)
 
 -- the entries of years 1 to n

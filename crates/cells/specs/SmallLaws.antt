@@ -13,7 +13,7 @@ use Rattle.model.specs.Cells.{pairs, rbnsFrom, ibnrFrom}
 use Rattle.arithmetic.specs.RoundingLaws.{r-abs}
 use Rattle.chain_ladder.specs.SharesLaws.{S-pos}
 use Rattle.cells.specs.Weights.{Weights, Delays}
-use Rattle.cells.specs.PairLaws.{pairs-small, reported-interval, unreported-interval}
+use Rattle.cells.specs.PairLaws.{pairs-small}
 
 scaled-small : (v x : ℤ) → natAbs v ≤ 2 * 10 ^ 14 → natAbs x ≤ 9 * 10 ^ 18 → natAbs (r (v *ℤ x) (S *ℤ S)) ≤ 2 * 10 ^ 15
 unfolding S
@@ -24,9 +24,9 @@ module _ (m : ℕ) (few : m ≤ 20) (v : ℤ) (v-small : natAbs v ≤ 2 * 10 ^ 1
   pub rbns-small : natAbs (rbnsFrom m v x p i j) ≤ 2 * 10 ^ 15
   unfolding rbnsFrom
   rbns-small =
-      scaled-small v (pairs m j (λ k. leb k (m - i)) x p) v-small (rw (← reported-interval m j (m - i) x p) (pairs-small m j 0 (m - i + 1) x p weights delays few))
+      scaled-small v (pairs m j (λ k. leb k (m - i)) x p) v-small (pairs-small m j (λ k. leb k (m - i)) x p weights delays few)
 
   pub ibnr-small : natAbs (ibnrFrom m v x p i j) ≤ 2 * 10 ^ 15
   unfolding ibnrFrom
   ibnr-small =
-      scaled-small v (pairs m j (λ k. ltb (m - i) k) x p) v-small (rw (← unreported-interval m j (m - i) x p) (pairs-small m j (m - i + 1) m x p weights delays few))
+      scaled-small v (pairs m j (λ k. ltb (m - i) k) x p) v-small (pairs-small m j (ltb (m - i)) x p weights delays few)

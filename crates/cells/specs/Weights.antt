@@ -19,6 +19,10 @@ pub record Weights (x : List ℤ) : Type 0 where
 abbrev pub Delays : List ℤ → Type 0
 Delays p = (l : ℕ) → l < 20 → natAbs (at p l) ≤ 8 * 10 ^ 9
 
+-- sums that `scale_cell` takes
+abbrev pub Summed : List ℤ → Type 0
+Summed u = (j : ℕ) → j < 39 → natAbs (at u j) ≤ 9 * 10 ^ 18
+
 -- "r(count(i,k) × the count share g(m-i) / C(i,m-i) of counts)", for that share g and that sum c
 unfoldable pub actualWeight : List ℤ → ℕ → ℤ → ℤ → ℕ → ℤ
 actualWeight counts i g c k = r (cell counts i k *ℤ g) c

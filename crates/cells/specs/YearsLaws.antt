@@ -3,20 +3,21 @@ use mathlib.Core.Path.{_≡_, refl, sym, _∙_, ap, ap₂}
 use mathlib.Core.Bool.{cond}
 use mathlib.Core.List.{List, [], _++_}
 use Prim.Native.Nat.{ℕ, suc, _+_, _-_, _*_, _/_, _%_, _≤_, _<_}
-use native.Mathlib.Nat.{add-mul, one-mul, mul-assoc, mul-left-comm, mul-le-mul-right, div-lt-iff-lt-mul, zero-add}
+use native.Mathlib.Nat.{mod-lt, add-mul, one-mul, mul-assoc, mul-left-comm, mul-le-mul-right, div-lt-iff-lt-mul, zero-add}
 use native.Mathlib.Omega.{arith}
 use lib.Arith.{digits-div, digits-mod}
-use lib.Dec.{eqb}
-use lib.IntN.{ℤ}
+use lib.Dec.{leb, ltb, eqb}
+use lib.IntN.{ℤ, pos, _*ℤ_}
 use lib.ListN.{length}
 use Rattle.model.specs.Lists.{at, tabulate}
-use Rattle.model.specs.ListsLaws.{tabulate-append, tabulate-ext, length-tabulate}
-use Rattle.model.specs.Cells.{size, yearOf, delayOf, rbns, ibnr, entry, entries, outputFrom, sList}
+use Rattle.model.specs.ListsLaws.{getD-tabulate, tabulate-append, tabulate-ext, length-tabulate}
+use Rattle.model.specs.Cells.{size, pairs, yearOf, delayOf, ibnrFrom, rbns, ibnr, entry, entries, outputFrom, sList}
+use Rattle.model.specs.Rounding.{S, r}
 use Rattle.model.specs.Overlay.{overlay}
 use Rattle.model.specs.Shares.{bList}
 use Rattle.model.specs.RowBases.{rowBase}
 use Rattle.model.specs.declared.TriangleSet.{TriangleSet}
-use Rattle.cells.specs.CellOf.{cellOf, firstEntries, yearEntries, entryAt, yearsEntries}
+use Rattle.cells.specs.CellOf.{sumsFrom, cellOf, firstEntries, yearEntries, entryAt, yearsEntries}
 
 -- the entries of m years
 pub all-inside : (m : ℕ) → m * (2 * (2 * m - 1)) ≡ size m
@@ -42,7 +43,7 @@ module _ (m : ℕ) (some : 1 ≤ m) (v : List ℤ) (s : ℕ → List ℤ) (b p :
 
   -- entry e of year n + 1
   of-year : (n e : ℕ) → e < 2 * (2 * m - 1)
-      → entryAt m v s b p (n * (2 * (2 * m - 1)) + e) ≡ cond (eqb (e % 2) 0) (cellOf m (at v n) (s (n + 1)) b p (n + 1) (e / 2) .rbns) (cellOf m (at v n) (s (n + 1)) b p (n + 1) (e / 2) .ibnr)
+      → entryAt m v s b p (n * (2 * (2 * m - 1)) + e) ≡ cond (eqb (e % 2) 0) (cellOf m (at v n) (s (n + 1)) p (sumsFrom m (m - n) b p) (n + 1) (e / 2) .rbns) (cellOf m (at v n) (s (n + 1)) p (sumsFrom m (m - n) b p) (n + 1) (e / 2) .ibnr)
   unfolding entryAt
   of-year n e h =
       let w = 2 * m - 1 in
@@ -59,7 +60,7 @@ module _ (m : ℕ) (some : 1 ≤ m) (v : List ℤ) (s : ℕ → List ℤ) (b p :
       swap : (n w : ℕ) → n * (2 * w) ≡ 2 * (n * w)
       swap n w = mul-left-comm n 2 w
 
-  pub one-more-year : (n : ℕ) → yearsEntries m v s b p n ++ yearEntries m (at v n) (s (n + 1)) b p (n + 1) ≡ yearsEntries m v s b p (n + 1)
+  pub one-more-year : (n : ℕ) → yearsEntries m v s b p n ++ yearEntries m (at v n) (s (n + 1)) p (sumsFrom m (m - n) b p) (n + 1) ≡ yearsEntries m v s b p (n + 1)
   unfolding yearsEntries firstEntries
   one-more-year n =
       let w = 2 * (2 * m - 1) in
@@ -68,11 +69,18 @@ module _ (m : ℕ) (some : 1 ≤ m) (v : List ℤ) (s : ℕ → List ℤ) (b p :
       (ap (λ (k : ℕ). tabulate k (entryAt m v s b p)) e ∙ tabulate-append (n * w) w (entryAt m v s b p)
       ∙ ap (λ (l : List ℤ). tabulate (n * w) (entryAt m v s b p) ++ l)
       (tabulate-ext w (λ k. entryAt m v s b p (n * w + k))
-      (λ k. cond (eqb (k % 2) 0) (cellOf m (at v n) (s (n + 1)) b p (n + 1) (k / 2) .rbns) (cellOf m (at v n) (s (n + 1)) b p (n + 1) (k / 2) .ibnr))
+      (λ k. cond (eqb (k % 2) 0) (cellOf m (at v n) (s (n + 1)) p (sumsFrom m (m - n) b p) (n + 1) (k / 2) .rbns) (cellOf m (at v n) (s (n + 1)) p (sumsFrom m (m - n) b p) (n + 1) (k / 2) .ibnr))
       (λ k h. of-year n k h)))
 
+-- the sums over the unreported claims of year i give its IBNR cells
+ibnr-is : (m i j : ℕ) (v : ℤ) (b p : List ℤ) → 1 ≤ i → i ≤ m → j < 39 → r (v *ℤ at (sumsFrom m (m - (i - 1)) b p) j) (S *ℤ S) ≡ ibnrFrom m v b p i j
+unfolding sumsFrom ibnrFrom
+ibnr-is m i j v b p h l k =
+    let e : m - (i - 1) ≡ suc (m - i) = omega arith in
+    rw (getD-tabulate 39 (λ j. pairs m j (leb (m - (i - 1))) b p) j (pos 0) k, e)
+
 -- the whole output of a set, from its row bases and weights
-module _ (m : ℕ) (some : 1 ≤ m) (t : TriangleSet) (p v : List ℤ) (s : ℕ → List ℤ) (method basis : ℕ)
+module _ (m : ℕ) (some : 1 ≤ m) (few : m ≤ 20) (t : TriangleSet) (p v : List ℤ) (s : ℕ → List ℤ) (method basis : ℕ)
     (bases : (i : ℕ) → 1 ≤ i → i ≤ m → at v (i - 1) ≡ rowBase m t method i) (weights : (i : ℕ) → 1 ≤ i → i ≤ m → s i ≡ sList m t basis i) where
   entry-is : (e : ℕ) → e < size m → entryAt m v s (bList m (t .counts)) p e ≡ entry m t p method basis e
   unfolding entryAt entry rbns ibnr cellOf
@@ -80,7 +88,8 @@ module _ (m : ℕ) (some : 1 ≤ m) (t : TriangleSet) (p v : List ℤ) (s : ℕ 
       let w : 0 < 2 * m - 1 = omega arith in
       let a : e / 2 < m * (2 * m - 1) = half e (m * (2 * m - 1)) (rw (mul-assoc 2 m (2 * m - 1)) at l) in
       let d : e / 2 / (2 * m - 1) < m = div-lt-iff-lt-mul w .1 a in
-      rw (bases (yearOf m e) (omega arith) (omega arith), weights (yearOf m e) (omega arith) (omega arith))
+      let j : delayOf m e < 39 = omega (arith, mod-lt (e / 2) w) in
+      rw (bases (yearOf m e) (omega arith) (omega arith), weights (yearOf m e) (omega arith) (omega arith), ibnr-is m (yearOf m e) (delayOf m e) (rowBase m t method (yearOf m e)) (bList m (t .counts)) p (omega arith) (omega arith) j)
     where
       half : (e n : ℕ) → e < 2 * n → e / 2 < n
       half e n h = omega arith

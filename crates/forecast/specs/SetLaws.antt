@@ -97,7 +97,7 @@ module _ (m : ℕ) (s : TriangleSet) (method basis : ℕ) (valid : Valid m s) (s
   pub written : (before : List ℤ) → overlay before 0 (yearsEntries m (rowBases m s method) weights (bList m (s .counts)) (delaysOf m s) m) ≡ setOutput m s method basis before
   unfolding setOutput
   written before =
-      output-is m (let l = least m s valid in omega arith) s (delaysOf m s) (rowBases m s method) weights method basis
+      output-is m (let l = least m s valid in omega arith) (few m s valid) s (delaysOf m s) (rowBases m s method) weights method basis
       (λ i h l. (let e : suc (i - 1) ≡ i = omega arith in at-bases (i - 1) (omega arith) ∙ ap (rowBase m s method) e)) year-weights before
       ∙ rw accepted
 

@@ -1,6 +1,6 @@
 // The forecast of a set, questions 9 to 14.
 use crate::method::method_bases;
-use cells::years::write_years;
+use cells::years::cell_forecast;
 use chain_ladder::Development;
 use model::ForecastAnswer;
 use model::TriangleSet;
@@ -101,7 +101,7 @@ pub fn forecast_set(
     let v = ready.v;
     let p = ready.p;
     let leftovers = ready.leftovers;
-    write_years(out, m, basis, &set.counts, shares, g, latest, v, p);
+    cell_forecast(out, m, basis, &set.counts, shares, g, latest, v, p);
     ForecastAnswer {
         refusal: 0,
         leftovers,

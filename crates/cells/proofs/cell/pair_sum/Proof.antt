@@ -1,39 +1,40 @@
 -- `cells::cell::pair_sum` meets its contract. The loop's invariant: what is summed so far are the terms below k.
 -- Assumes nothing.
-use mathlib.Core.Path.{_≡_, refl, sym, _∙_, ap, ap₂}
+use mathlib.Core.Path.{_≡_, refl, sym, _∙_, ap}
 use mathlib.Core.Logic.{_⊎_, ⊎-elim, inl, inr}
-use Prim.Native.Nat.{ℕ, _+_, _-_, _*_, _^_, _≤_, _<_}
+use Prim.Native.Nat.{ℕ, suc, _+_, _-_, _*_, _^_, _≤_, _<_}
 use native.Mathlib.Nat.{mul-le-mul}
 use native.Mathlib.Numerals.{add-one}
 use native.Mathlib.Omega.{arith}
+use borrow.Author.Tests.{le-leb, lt-leb}
+use lib.Dec.{leb}
 use lib.IntN.{ℤ, pos, natAbs, _+ℤ_, _*ℤ_}
-use lib.ListN.{getD}
 use mir.Syntax.{w64}
 use mir.Val.{SFits, toZ, ofZ}
 use mir.Facts.{toZ-ofZ}
 use Rattle.integers.specs.Order.{natAbs-*ℤ}
-use Rattle.integers.specs.Sums.{sum, sum-suc}
+use Rattle.integers.specs.Sums.{sum, sum-suc, sum-nothing, sum-ends}
 use Rattle.arithmetic.proofs.Words.{fits-abs}
 use Rattle.model.specs.Lists.{at}
-use Rattle.model.specs.Cells.{pairs}
-use Rattle.cells.specs.PairLaws.{term, term-in, sum-start, sum-end, sum-small, weight-small, pairs-terms}
+use Rattle.cells.specs.PairLaws.{term, term-in, term-no, term-before, term-after, sum-small, weight-small, pairs-terms}
 use Rattle.cells.proofs.cell.pair_sum.Statement.{statement}
 use Rattle.cells.proofs.cell.pair_sum.Tie as tie
 
 abbrev Inv-loop : tie.InvT-loop
-Inv-loop x p m j lo hi end k₀ sum₀ k s = (lo ≤ k) × (j < k + m) × (toZ w64 s ≡ sum k (term m j lo hi x p))
+Inv-loop x p m j n last k₀ sum₀ k s = (j < k + m) × (toZ w64 s ≡ sum k (term m j (λ k. leb k n) x p))
 
 abbrev μ-loop : tie.MeasureT-loop
-μ-loop x p m j lo hi end k₀ sum₀ k s = end - k
+μ-loop x p m j n last k₀ sum₀ k s = last + 1 - k
 
--- the k passed over are below the interval, or leave j - k too large; those not reached are above it, or past j
-before : (c : tie.After-larger Inv-loop μ-loop) → (let s = c .before .before .args in
-    (i : ℕ) → i < c .larger .result - s .m → (i < s .lo) ⊎ (i + s .m ≤ s .j))
-before c i l = ⊎-elim (λ e. inl (omega arith)) (λ e. inr (omega arith)) (c .larger .ensures .2)
+abbrev terms : tie.Start Inv-loop μ-loop → ℕ → ℤ
+terms s = term (s .args .m) (s .args .j) (λ k. leb k (s .args .n)) (s .args .x .now) (s .args .p .now)
 
-after : (c : tie.After-loop Inv-loop μ-loop) → (let s = c .before .before .before .before in
-    (i : ℕ) → c .before .before .before .smaller .result ≤ i → (s .args .hi ≤ i) ⊎ (s .args .j < i))
-after c i l = ⊎-elim (λ e. inl (omega arith)) (λ e. inr (omega arith)) (c .before .before .before .smaller .ensures .2)
+-- the terms past the last one are 0
+past : (c : tie.After-smaller Inv-loop μ-loop) (k : ℕ) → c .smaller .result < k → terms (c .before) k ≡ pos 0
+past c k l =
+    let a = c .before .args in
+    ⊎-elim (λ e. term-no (a .m) (a .j) (λ k. leb k (a .n)) (a .x .now) (a .p .now) k (lt-leb k (a .n) (omega arith)))
+    (λ e. term-after (a .m) (a .j) (λ k. leb k (a .n)) (a .x .now) (a .p .now) k (omega arith)) (c .smaller .ensures .2)
 
 module _ (c : tie.After-sum2 Inv-loop μ-loop) where
   abbrev l : tie.At-loop Inv-loop μ-loop
@@ -48,9 +49,6 @@ module _ (c : tie.After-sum2 Inv-loop μ-loop) where
   abbrev y : ℤ
   y = at (s .args .p .now) (s .args .j - l .loop .k)
 
-  abbrev sums : ℕ → ℤ
-  sums n = sum n (term (s .args .m) (s .args .j) (s .args .lo) (s .args .hi) (s .args .x .now) (s .args .p .now))
-
   x-back : toZ w64 (ofZ w64 x) ≡ x
   x-back = toZ-ofZ (record { sfits = c .before .sum .given })
 
@@ -64,40 +62,30 @@ module _ (c : tie.After-sum2 Inv-loop μ-loop) where
       let a = mul-le-mul (weight-small (s .args .x .now) (s .pre .1 .0) (l .loop .k) h) (s .pre .1 .1 (s .args .j - l .loop .k) k) in
       fits-abs (omega (arith, natAbs-*ℤ x y))
 
-  one-more : sums (l .loop .k + 1) ≡ sums (l .loop .k) +ℤ x *ℤ y
+  one-more : sum (l .loop .k + 1) (terms s) ≡ sum (l .loop .k) (terms s) +ℤ x *ℤ y
   one-more =
       rw add-one
-      (sum-suc (l .loop .k) (term (s .args .m) (s .args .j) (s .args .lo) (s .args .hi) (s .args .x .now) (s .args .p .now))
-      ∙ ap (λ (z : ℤ). sums (l .loop .k) +ℤ z)
-      (term-in (s .args .m) (s .args .j) (s .args .lo) (s .args .hi) (s .args .x .now) (s .args .p .now) (l .loop .k) (omega arith) (omega arith) (omega arith) (omega arith)))
+      (sum-suc (l .loop .k) (terms s)
+      ∙ ap (λ (z : ℤ). sum (l .loop .k) (terms s) +ℤ z)
+      (term-in (s .args .m) (s .args .j) (λ k. leb k (s .args .n)) (s .args .x .now) (s .args .p .now) (l .loop .k) (le-leb (l .loop .k) (s .args .n) (omega arith)) (omega arith) (omega arith)))
 
-  next-fits : SFits w64 (sums (l .loop .k) +ℤ x *ℤ y)
+  next-fits : SFits w64 (sum (l .loop .k) (terms s) +ℤ x *ℤ y)
   next-fits =
       rw (← one-more)
-      (fits-abs (omega (arith, sum-small (s .args .m) (s .args .j) (s .args .lo) (s .args .hi) (s .args .x .now) (s .args .p .now) (s .pre .1 .0) (s .pre .1 .1) (omega arith) (l .loop .k + 1) (omega arith))))
-
-add-smaller : tie.Need-add-smaller Inv-loop μ-loop
-add-smaller c = omega arith
+      (fits-abs (omega (arith, sum-small (s .args .m) (s .args .j) (λ k. leb k (s .args .n)) (s .args .x .now) (s .args .p .now) (s .pre .1 .0) (s .pre .1 .1) (omega arith) (l .loop .k + 1) (omega arith))))
 
 smaller-requires : tie.Need-smaller-requires Inv-loop μ-loop
 smaller-requires c κs = tt
 
-add-larger : tie.Need-add-larger Inv-loop μ-loop
-add-larger c = omega arith
-
-add-larger-2 : tie.Need-add-larger-2 Inv-loop μ-loop
-add-larger-2 c = omega arith
-
-larger-requires : tie.Need-larger-requires Inv-loop μ-loop
-larger-requires c κs = tt
-
-sub-k : tie.Need-sub-k Inv-loop μ-loop
-sub-k c = omega arith
+first-pair-requires : tie.Need-first-pair-requires Inv-loop μ-loop
+first-pair-requires c κs = (omega arith, omega arith, omega arith)
 
 loop-holds : tie.Need-loop-holds Inv-loop μ-loop
 loop-holds c =
-    let s = c .before .before .args in
-    (omega arith, omega arith, sym (sum-start (s .m) (s .j) (s .lo) (s .hi) (s .x .now) (s .p .now) (c .larger .result - s .m) (λ i l. before c i l)))
+    let a = c .before .before .args in (
+      c .first-pair .ensures .0,
+      sym (sum-nothing (c .first-pair .result) (λ k l. term-before (a .m) (a .j) (λ k. leb k (a .n)) (a .x .now) (a .p .now) k (c .first-pair .ensures .1 k l))),
+    )
 
 mul-sum : tie.Need-mul-sum Inv-loop μ-loop
 mul-sum c = omega arith
@@ -118,7 +106,7 @@ mul-sum-3 : tie.Need-mul-sum-3 Inv-loop μ-loop
 mul-sum-3 c = rw (x-back c, p-back c) (product-fits c)
 
 add-sum : tie.Need-add-sum Inv-loop μ-loop
-add-sum c = rw (x-back c, p-back c, toZ-ofZ (product-fits c), c .before .before .before .loop .inv .2) (next-fits c)
+add-sum c = rw (x-back c, p-back c, toZ-ofZ (product-fits c), c .before .before .before .loop .inv .1) (next-fits c)
 
 add-k : tie.Need-add-k Inv-loop μ-loop
 add-k c = omega arith
@@ -128,14 +116,17 @@ loop-less c = omega arith
 
 loop-again : tie.Need-loop-again Inv-loop μ-loop
 loop-again c =
-    (omega arith, omega arith, rw (x-back c, p-back c, toZ-ofZ (product-fits c), c .before .before .before .loop .inv .2, toZ-ofZ (next-fits c)) (sym (one-more c)))
+    (omega arith, rw (x-back c, p-back c, toZ-ofZ (product-fits c), c .before .before .before .loop .inv .1, toZ-ofZ (next-fits c)) (sym (one-more c)))
 
 returns : tie.Need-returns Inv-loop μ-loop
 returns c =
-    let s = c .before .before .before .before .args in
-    c .before .loop .inv .2
-    ∙ sum-end (s .m) (s .j) (s .lo) (s .hi) (s .x .now) (s .p .now) (c .before .loop .k) (c .before .before .before .smaller .result) (omega arith) (omega arith) (λ i l. after c i l)
-    ∙ sym (pairs-terms (s .m) (s .j) (s .lo) (s .hi) (s .x .now) (s .p .now))
+    let f = c .before .before .before in
+    let a = f .before .args in
+    let end = f .smaller .result + 1 in
+    c .before .loop .inv .1
+    ∙ sum-ends end (c .before .loop .k) (terms (f .before)) (omega arith) (λ k l u. past f k (omega arith))
+    ∙ sym (sum-ends end (a .m) (terms (f .before)) (omega arith) (λ k l u. past f k (omega arith)))
+    ∙ sym (pairs-terms (a .m) (a .j) (λ k. leb k (a .n)) (a .x .now) (a .p .now))
 
 pub pair-sum-spec : {M : Type 1} → statement M
 pair-sum-spec =
@@ -143,12 +134,8 @@ pair-sum-spec =
     (tie.spec
     Inv-loop
     μ-loop
-    add-smaller
     smaller-requires
-    add-larger
-    add-larger-2
-    larger-requires
-    sub-k
+    first-pair-requires
     loop-holds
     mul-sum
     element-copy-out-sum

@@ -17,10 +17,10 @@ use Rattle.cells.proofs.cell.write_year.Statement.{statement}
 use Rattle.cells.proofs.cell.write_year.Tie as tie
 
 abbrev Inv-loop : tie.InvT-loop
-Inv-loop out₀ from v s b p m i j₀ out j = (j ≤ 2 * m - 1) × (out ≡ overlay out₀ from (firstEntries m (toZ w64 v) s b p i (2 * j)))
+Inv-loop out₀ from v s p u m i j₀ out j = (j ≤ 2 * m - 1) × (out ≡ overlay out₀ from (firstEntries m (toZ w64 v) s p u i (2 * j)))
 
 abbrev μ-loop : tie.MeasureT-loop
-μ-loop out₀ from v s b p m i j₀ out j = 2 * m - j
+μ-loop out₀ from v s p u m i j₀ out j = 2 * m - j
 
 -- what is written so far, and its length
 module _ (l : tie.At-loop Inv-loop μ-loop) where
@@ -28,10 +28,10 @@ module _ (l : tie.At-loop Inv-loop μ-loop) where
   a = l .before
 
   abbrev entries : ℕ → List ℤ
-  entries n = firstEntries (a .args .m) (a .args .v) (a .args .s .now) (a .args .b .now) (a .args .p) (a .args .i) n
+  entries n = firstEntries (a .args .m) (a .args .v) (a .args .s .now) (a .args .p .now) (a .args .u .now) (a .args .i) n
 
   long : (n : ℕ) → length (entries n) ≡ n
-  long n = length-entries (a .args .m) (a .args .v) (a .args .s .now) (a .args .b .now) (a .args .p) (a .args .i) n
+  long n = length-entries (a .args .m) (a .args .v) (a .args .s .now) (a .args .p .now) (a .args .u .now) (a .args .i) n
 
   so-far : l .loop .out ≡ overlay (a .args .out .now) (a .args .from) (entries (2 * l .loop .j))
   so-far = rw (toZ-ofZ (a .fits .v)) at (l .loop .inv .1)
@@ -43,15 +43,15 @@ module _ (c : tie.After-struct-told2 Inv-loop μ-loop) where
   abbrev l : tie.At-loop Inv-loop μ-loop
   l = c .before .before .before .before
 
-  rbns-back : toZ w64 (ofZ w64 (c .before .before .cell-forecast .result .rbns)) ≡ c .before .before .cell-forecast .result .rbns
+  rbns-back : toZ w64 (ofZ w64 (c .before .before .one-cell .result .rbns)) ≡ c .before .before .one-cell .result .rbns
   rbns-back = toZ-ofZ (record { sfits = c .before .struct-told .given .0 .1 })
 
-  ibnr-back : toZ w64 (ofZ w64 (c .before .before .cell-forecast .result .ibnr)) ≡ c .before .before .cell-forecast .result .ibnr
+  ibnr-back : toZ w64 (ofZ w64 (c .before .before .one-cell .result .ibnr)) ≡ c .before .before .one-cell .result .ibnr
   ibnr-back = toZ-ofZ (record { sfits = c .struct-told2 .given .1 .0 .1 })
 
 loop-holds : tie.Need-loop-holds Inv-loop μ-loop
 loop-holds c =
-    (omega arith, sym (rw (no-entries (c .args .m) (toZ w64 (ofZ w64 (c .args .v))) (c .args .s .now) (c .args .b .now) (c .args .p) (c .args .i)) (overlay-none (c .args .out .now) (c .args .from))))
+    (omega arith, sym (rw (no-entries (c .args .m) (toZ w64 (ofZ w64 (c .args .v))) (c .args .s .now) (c .args .p .now) (c .args .u .now) (c .args .i)) (overlay-none (c .args .out .now) (c .args .from))))
 
 mul-loop : tie.Need-mul-loop Inv-loop μ-loop
 mul-loop c = omega arith
@@ -59,8 +59,8 @@ mul-loop c = omega arith
 sub-loop : tie.Need-sub-loop Inv-loop μ-loop
 sub-loop c = omega arith
 
-cell-forecast-requires : tie.Need-cell-forecast-requires Inv-loop μ-loop
-cell-forecast-requires c κs =
+one-cell-requires : tie.Need-one-cell-requires Inv-loop μ-loop
+one-cell-requires c κs =
     let a = c .before .before in
     ((a .pre .0 .0, a .pre .0 .1, a .pre .0 .2, omega arith, rw (toZ-ofZ (a .fits .v)) (a .pre .0 .3)), a .pre .1)
 
@@ -103,13 +103,13 @@ loop-again c =
     let j = l c .loop .j in
     let at = a .from + 2 * j in
     let v = toZ-ofZ (l c .before .fits .v) in
-    let e = rw v at (c .before .before .cell-forecast .ensures) in
-    let cell = cellOf (a .m) (a .v) (a .s .now) (a .b .now) (a .p) (a .i) j in (
+    let e = rw v at (c .before .before .one-cell .ensures) in
+    let cell = cellOf (a .m) (a .v) (a .s .now) (a .p .now) (a .u .now) (a .i) j in (
       omega arith,
       ap₂ (λ (x y : ℤ). set (set (l c .loop .out) at x) (at + 1) y) (rbns-back c ∙ ap (λ (x : Cell). x .rbns) e) (ibnr-back c ∙ ap (λ (x : Cell). x .ibnr) e)
           ∙ ap (λ (o : List ℤ). set (set o at (cell .rbns)) (at + 1) (cell .ibnr)) (so-far (l c))
-          ∙ two-stored (a .m) (a .v) (a .s .now) (a .b .now) (a .p) (a .i) (a .out .now) (a .from) j (omega arith)
-          ∙ ap (λ (z : ℤ). overlay (a .out .now) (a .from) (firstEntries (a .m) z (a .s .now) (a .b .now) (a .p) (a .i) (2 * (j + 1)))) (sym v),
+          ∙ two-stored (a .m) (a .v) (a .s .now) (a .p .now) (a .u .now) (a .i) (a .out .now) (a .from) j (omega arith)
+          ∙ ap (λ (z : ℤ). overlay (a .out .now) (a .from) (firstEntries (a .m) z (a .s .now) (a .p .now) (a .u .now) (a .i) (2 * (j + 1)))) (sym v),
     )
 
 same-length : tie.Need-same-length Inv-loop μ-loop
@@ -129,7 +129,7 @@ write-year-spec =
     loop-holds
     mul-loop
     sub-loop
-    cell-forecast-requires
+    one-cell-requires
     mul-rbns
     add-rbns
     mul-rbns-2

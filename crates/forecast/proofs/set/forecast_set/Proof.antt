@@ -15,15 +15,15 @@ returns c =
       refused-output (a .m) (a .t1) (a .method) (x .prepare .result) (x .prepare .ensures) (c .if1 .taken) (a .basis) (a .out .now),
     )
 
-write-years-requires : tie.Need-write-years-requires
-write-years-requires c κs =
+cell-forecast-requires : tie.Need-cell-forecast-requires
+cell-forecast-requires c κs =
     let e = c .before .before .before .before .before .before .before .before .before .before in
     let x = e .before .before in
     let a = x .before .args in
     (years-ready (a .m) (a .t1) (a .method) (x .prepare .result) (x .prepare .ensures) (e .if1 .left) (a .basis) (x .before .pre .0) (x .before .pre .1), x .before .pre .2)
 
 same-length : tie.Need-same-length
-same-length c = c .before .write-years .kept .0
+same-length c = c .before .cell-forecast .kept .0
 
 returns-2 : tie.Need-returns-2
 returns-2 c =
@@ -31,10 +31,10 @@ returns-2 c =
     let x = e .before .before in
     let a = x .before .args in (
       accepted-answer (a .m) (a .t1) (a .method) (x .prepare .result) (x .prepare .ensures) (e .if1 .left),
-      c .before .write-years .ensures
+      c .before .cell-forecast .ensures
           ∙ years-written (a .m) (a .t1) (a .method) (x .prepare .result) (x .prepare .ensures) (e .if1 .left) (a .basis) (x .before .pre .0) (x .before .pre .1) (a .out .now),
     )
 
 pub forecast-set-spec : {M : Type 1} → statement M
 forecast-set-spec =
-    tie.close (tie.spec prepare-requires returns write-years-requires same-length returns-2)
+    tie.close (tie.spec prepare-requires returns cell-forecast-requires same-length returns-2)

@@ -1,4 +1,5 @@
--- `cells::years::write_years` meets its contract. The loop's invariant: the entries of the first n years are written.
+-- `cells::years::cell_forecast` meets its contract. The loop's invariant: the entries of the first n years are written, and the sums are those of the reporting
+-- delays that year n + 1 has not reported.
 -- Assumes nothing.
 use mathlib.Core.Path.{_≡_, refl, sym, _∙_, ap, ap₂}
 use mathlib.Core.List.{List}
@@ -13,29 +14,30 @@ use mir.Facts.{toZ-ofZ}
 use Rattle.model.specs.Lists.{at}
 use Rattle.model.specs.Cells.{size}
 use Rattle.model.specs.Overlay.{overlay, overlay-none, overlay-more, length-overlay}
-use Rattle.cells.specs.CellOf.{yearEntries, yearsEntries}
+use Rattle.cells.specs.CellOf.{sumsFrom, yearEntries, yearsEntries}
+use Rattle.cells.specs.DelaysLaws.{no-sums, sums-fit}
 use Rattle.cells.specs.Ready.{Ready, yearWeights}
 use Rattle.cells.specs.ReadyLaws.{g-small, latest-pos, latest-small, counts-small, year-weights, shares-fit}
 use Rattle.cells.specs.YearsLaws.{year-inside, all-inside, no-years, length-years, one-more-year}
-use Rattle.cells.proofs.years.write_years.Statement.{statement}
-use Rattle.cells.proofs.years.write_years.Tie as tie
+use Rattle.cells.proofs.years.cell_forecast.Statement.{statement}
+use Rattle.cells.proofs.years.cell_forecast.Tie as tie
 
 abbrev Inv-loop : tie.InvT-loop
-Inv-loop out₀ m basis counts p shares g latest v n₀ out n =
-    (n ≤ m) × (out ≡ overlay out₀ 0 (yearsEntries m v (yearWeights m counts basis shares g latest) shares p n))
+Inv-loop out₀ m basis counts shares g latest v p unreported₀ n₀ out unreported n =
+    (n ≤ m) × (out ≡ overlay out₀ 0 (yearsEntries m v (yearWeights m counts basis shares g latest) shares p n)) × (unreported ≡ sumsFrom m (m - n) shares p)
 
 abbrev μ-loop : tie.MeasureT-loop
-μ-loop out₀ m basis counts p shares g latest v n₀ out n = m - n
+μ-loop out₀ m basis counts shares g latest v p unreported₀ n₀ out unreported n = m - n
 
 abbrev years : tie.Start Inv-loop μ-loop → ℕ → List ℤ
 years a n =
-    yearsEntries (a .args .m) (a .args .t8) (yearWeights (a .args .m) (a .args .counts .now) (a .args .basis) (a .args .t5) (a .args .t6) (a .args .t7)) (a .args .t5) (a .args .p) n
+    yearsEntries (a .args .m) (a .args .t8) (yearWeights (a .args .m) (a .args .counts .now) (a .args .basis) (a .args .t5) (a .args .t6) (a .args .t7)) (a .args .t5) (a .args .t9) n
 
 some : (a : tie.Start Inv-loop μ-loop) → 1 ≤ a .args .m
 some a = omega (arith, a .pre .0 .some)
 
 long : (a : tie.Start Inv-loop μ-loop) (n : ℕ) → length (years a n) ≡ n * (2 * (2 * a .args .m - 1))
-long a n = length-years (a .args .m) (some a) (a .args .t8) (yearWeights (a .args .m) (a .args .counts .now) (a .args .basis) (a .args .t5) (a .args .t6) (a .args .t7)) (a .args .t5) (a .args .p) n
+long a n = length-years (a .args .m) (some a) (a .args .t8) (yearWeights (a .args .m) (a .args .counts .now) (a .args .basis) (a .args .t5) (a .args .t6) (a .args .t7)) (a .args .t5) (a .args .t9) n
 
 -- what is written so far has the output's length
 module _ (l : tie.At-loop Inv-loop μ-loop) where
@@ -75,7 +77,11 @@ weights-are c = rw (g-back (c .before), latest-back (c .before)) at (c .weights 
 
 loop-holds : tie.Need-loop-holds Inv-loop μ-loop
 loop-holds c =
-    (omega arith, sym (rw (no-years (c .args .m) (some c) (c .args .t8) (yearWeights (c .args .m) (c .args .counts .now) (c .args .basis) (c .args .t5) (c .args .t6) (c .args .t7)) (c .args .t5) (c .args .p)) (overlay-none (c .args .out .now) 0)))
+    let e : c .args .m ≡ c .args .m - 0 = omega arith in (
+      omega arith,
+      sym (rw (no-years (c .args .m) (some c) (c .args .t8) (yearWeights (c .args .m) (c .args .counts .now) (c .args .basis) (c .args .t5) (c .args .t6) (c .args .t7)) (c .args .t5) (c .args .t9)) (overlay-none (c .args .out .now) 0)),
+      no-sums (c .args .m) (c .args .t5) (c .args .t9) ∙ ap (λ (n : ℕ). sumsFrom (c .args .m) n (c .args .t5) (c .args .t9)) e,
+    )
 
 add-weights : tie.Need-add-weights Inv-loop μ-loop
 add-weights c = omega arith
@@ -132,12 +138,26 @@ add-write-year c = omega arith
 
 write-year-requires : tie.Need-write-year-requires Inv-loop μ-loop
 write-year-requires c κs =
-    let w = c .before .before .before .before in
+    let w = c .before .before .before .before .before in
     let k = l (w .before) in
     let z = a k .pre .0 in (
-      (omega arith, inside (w .before), z .few, rw (toZ-ofZ (record { sfits = c .before .before .write-year-arg2 .given })) (z .bases (k .loop .n) (omega arith)), (let h : k .loop .n < a k .args .m = omega arith in omega (arith, year-inside (a k .args .m) (k .loop .n) h, same k, a k .pre .1))),
-      (rw (weights-are w) (year-weights z (i (w .before)) (omega arith) (inside (w .before)) (a k .args .basis)), shares-fit z, z .delays),
+      (omega arith, inside (w .before), z .few, rw (toZ-ofZ (record { sfits = c .before .before .before .write-year-arg2 .given })) (z .bases (k .loop .n) (omega arith)), (let h : k .loop .n < a k .args .m = omega arith in omega (arith, year-inside (a k .args .m) (k .loop .n) h, same k, a k .pre .1))),
+      (rw (weights-are w) (year-weights z (i (w .before)) (omega arith) (inside (w .before)) (a k .args .basis)), z .delays, rw (k .loop .inv .2) (sums-fit (a k .args .m) (a k .args .m - k .loop .n) (a k .args .t5) (a k .args .t9) (z .few) (shares-fit z) (z .delays))),
     )
+
+sub-one-more-delay : tie.Need-sub-one-more-delay Inv-loop μ-loop
+sub-one-more-delay c = omega arith
+
+sub-one-more-delay-2 : tie.Need-sub-one-more-delay-2 Inv-loop μ-loop
+sub-one-more-delay-2 c = omega arith
+
+one-more-delay-requires : tie.Need-one-more-delay-requires Inv-loop μ-loop
+one-more-delay-requires c κs =
+    let w = c .before .before .before .before .before .before .before .before .before in
+    let k = l (w .before) in
+    let z = a k .pre .0 in
+    let e : a k .args .m - k .loop .n ≡ a k .args .m - 1 - k .loop .n + 1 = omega arith in
+    ((omega arith, z .few, k .loop .inv .2 ∙ ap (λ (n : ℕ). sumsFrom (a k .args .m) n (a k .args .t5) (a k .args .t9)) e), (shares-fit z, z .delays))
 
 add-n : tie.Need-add-n Inv-loop μ-loop
 add-n c = omega arith
@@ -147,18 +167,22 @@ loop-less c = omega arith
 
 loop-again : tie.Need-loop-again Inv-loop μ-loop
 loop-again c =
-    let d = c .before .before in
-    let w = d .before .before .before .before in
+    let d = c .before .before .before .before .before in
+    let w = d .before .before .before .before .before in
     let k = l (w .before) in
     let b = a k .args in
     let n = k .loop .n in
-    let v : toZ w64 (ofZ w64 (at (b .t8) n)) ≡ at (b .t8) n = toZ-ofZ (record { sfits = d .before .before .write-year-arg2 .given }) in
-    let s = yearWeights (b .m) (b .counts .now) (b .basis) (b .t5) (b .t6) (b .t7) in (
+    let v : toZ w64 (ofZ w64 (at (b .t8) n)) ≡ at (b .t8) n = toZ-ofZ (record { sfits = d .before .before .before .write-year-arg2 .given }) in
+    let s = yearWeights (b .m) (b .counts .now) (b .basis) (b .t5) (b .t6) (b .t7) in
+    let u = sumsFrom (b .m) (b .m - n) (b .t5) (b .t9) in
+    let e : b .m - 1 - n ≡ b .m - (n + 1) = omega arith in (
       omega arith,
-      (rw (v, weights-are w) at (c .before .write-year .ensures))
-          ∙ ap (λ (o : List ℤ). overlay o (n * (2 * (2 * b .m - 1))) (yearEntries (b .m) (at (b .t8) n) (s (n + 1)) (b .t5) (b .p) (n + 1))) (k .loop .inv .1)
-          ∙ overlay-more (b .out .now) 0 (years (a k) n) (yearEntries (b .m) (at (b .t8) n) (s (n + 1)) (b .t5) (b .p) (n + 1)) (n * (2 * (2 * b .m - 1))) (omega arith) (rw (long (a k) n) (omega arith))
-          ∙ ap (overlay (b .out .now) 0) (one-more-year (b .m) (some (a k)) (b .t8) s (b .t5) (b .p) n),
+      (rw (v, weights-are w) at (c .before .before .before .before .write-year .ensures))
+          ∙ ap (λ (x : List ℤ). overlay (k .loop .out) (n * (2 * (2 * b .m - 1))) (yearEntries (b .m) (at (b .t8) n) (s (n + 1)) (b .t9) x (n + 1))) (k .loop .inv .2)
+          ∙ ap (λ (o : List ℤ). overlay o (n * (2 * (2 * b .m - 1))) (yearEntries (b .m) (at (b .t8) n) (s (n + 1)) (b .t9) u (n + 1))) (k .loop .inv .1)
+          ∙ overlay-more (b .out .now) 0 (years (a k) n) (yearEntries (b .m) (at (b .t8) n) (s (n + 1)) (b .t9) u (n + 1)) (n * (2 * (2 * b .m - 1))) (omega arith) (rw (long (a k) n) (omega arith))
+          ∙ ap (overlay (b .out .now) 0) (one-more-year (b .m) (some (a k)) (b .t8) s (b .t5) (b .t9) n),
+      c .one-more-delay .ensures ∙ ap (λ (n : ℕ). sumsFrom (b .m) n (b .t5) (b .t9)) e,
     )
 
 same-length : tie.Need-same-length Inv-loop μ-loop
@@ -170,8 +194,8 @@ returns c =
     let e : c .before .loop .n ≡ a .args .m = omega arith in
     c .before .loop .inv .1 ∙ ap (λ (n : ℕ). overlay (a .args .out .now) 0 (years a n)) e
 
-pub write-years-spec : {M : Type 1} → statement M
-write-years-spec =
+pub cell-forecast-spec : {M : Type 1} → statement M
+cell-forecast-spec =
     tie.close
     (tie.spec
     Inv-loop
@@ -193,6 +217,9 @@ write-years-spec =
     array-copy-out-write-year
     add-write-year
     write-year-requires
+    sub-one-more-delay
+    sub-one-more-delay-2
+    one-more-delay-requires
     add-n
     loop-less
     loop-again

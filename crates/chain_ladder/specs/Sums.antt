@@ -1,11 +1,10 @@
 -- Sums of a triangle, as lists by place.
-use Prim.Native.Nat.{ℕ, suc, _+_, _-_, _/_, _%_, _≤_}
-use mathlib.Core.Bool.{cond}
+use Prim.Native.Nat.{ℕ, suc, _+_, _-_, _*_, _^_, _≤_, _<_}
 use mathlib.Core.List.{List}
 use lib.IntN.{ℤ, pos, natAbs}
-use Rattle.model.specs.Lists.{listed}
-use Rattle.model.specs.Records.{inside, cell}
-use Rattle.model.specs.Shares.{C, A, B}
+use Rattle.model.specs.Lists.{at, listed}
+use Rattle.model.specs.Records.{cell}
+use Rattle.model.specs.Shares.{A, B}
 use Rattle.model.specs.Shares as Shares
 use Rattle.chain_ladder.specs.declared.TriangleSums.{TriangleSums}
 
@@ -14,9 +13,11 @@ pub record Small (m n : ℕ) (t : List ℤ) : Type 0 where
   pub few : m ≤ 20
   pub cells : (i j : ℕ) → 1 ≤ i → i + j ≤ m → natAbs (cell t i j) ≤ n
 
--- C(i,j) where place p is cell (i,j), else 0
-abbrev pub rowSum : ℕ → List ℤ → ℕ → ℤ
-rowSum m t p = cond (inside m (p / 20 + 1) (p % 20)) (C t (p / 20 + 1) (p % 20)) (pos 0)
+-- at most 20 cells that stand d places apart, from place a on, none further from 0 than 10^10
+pub record Spaced (a d n : ℕ) (t : List ℤ) : Type 0 where
+  pub few : n ≤ 20
+  pub places : (k : ℕ) → k < n → a + d * k < 400
+  pub cells : (k : ℕ) → k < n → natAbs (at t (a + d * k)) ≤ 10 ^ 10
 
 -- C(i,m-i), year i at place i - 1
 unfoldable pub latests : ℕ → List ℤ → List ℤ

@@ -1,5 +1,5 @@
 -- What questions 9 to 11 and 13 say of a set, and the answers of `develop` and `incurred_ultimates` by them. Assumes nothing.
-use mathlib.Core.Path.{_≡_, sym, _∙_, ap, ap₂}
+use mathlib.Core.Path.{_≡_, refl, sym, _∙_, ap, ap₂}
 use mathlib.Core.Bool.{Bool, true, false, _&&_}
 use mathlib.Core.List.{List}
 use Prim.Native.Nat.{ℕ, suc, _-_, _^_, _≤_, _<_}
@@ -20,7 +20,7 @@ use Rattle.chain_ladder.specs.SharesLaws.{Sound, B-pos}
 use Rattle.chain_ladder.specs.Sums.{Small, latests, bSums}
 use Rattle.chain_ladder.specs.Ladder.{bounded}
 use Rattle.chain_ladder.specs.LadderLaws.{above, asked-B, asked-rows, columns-above, bounded-first}
-use Rattle.chain_ladder.specs.Valid.{Valid, least, few, small-up, counts-nonneg, counts-small, paid-nonneg, paid-small}
+use Rattle.chain_ladder.specs.Valid.{Valid, countsAndPaid, incurredAlone, least, few, small-up, counts-nonneg, counts-small, paid-nonneg, paid-small}
 use Rattle.chain_ladder.specs.declared.Developed.{Developed}
 use Rattle.chain_ladder.specs.Developed.{noDeveloped, development, developed, noIncurred, incurredOf}
 
@@ -60,6 +60,15 @@ module _ (m : ℕ) (s : TriangleSet) where
   pub developed-yes : firstNo (ofShares m s) ≡ 0 → developed m s ≡ record { refusal = 0; counts = development m (s .counts); paid = development m (s .paid) }
   unfolding developed
   developed-yes e = rw e
+
+  -- of counts and paid alone
+  pub developed-pair : developed m (countsAndPaid (s .counts) (s .paid)) ≡ developed m s
+  unfolding developed ofShares q9 q10 q11
+  developed-pair = refl
+
+  pub incurred-alone : incurredOf m (incurredAlone (s .incurred)) ≡ incurredOf m s
+  unfolding incurredOf q13
+  incurred-alone = refl
 
   module _ (valid : Valid m s) where
     pub some : 1 ≤ m

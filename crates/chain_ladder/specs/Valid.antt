@@ -1,6 +1,6 @@
 -- What questions 1 and 5 give of a set. Assumes nothing.
 use mathlib.Core.Path.{_≡_}
-use mathlib.Core.Bool.{true, _&&_}
+use mathlib.Core.Bool.{true, false, _&&_}
 use mathlib.Core.List.{List}
 use Prim.Native.Nat.{ℕ, _+_, _^_, _≤_}
 use native.Mathlib.Omega.{arith}
@@ -10,6 +10,7 @@ use Rattle.integers.specs.Order.{natAbs-≤, natAbs-mono}
 use Rattle.model.specs.ListsLaws.{and-left, and-right}
 use Rattle.model.specs.Records.{cell, inRange}
 use Rattle.model.specs.Questions.{q1, q5Writer, eachCell}
+use Rattle.model.specs.Calls.{zeros}
 use Rattle.model.specs.QuestionsLaws.{within-so, eachCell-at}
 use Rattle.model.specs.declared.TriangleSet.{TriangleSet}
 use Rattle.triangles.specs.Lengths.{size-so}
@@ -20,6 +21,19 @@ use Rattle.chain_ladder.specs.Sums.{Small}
 pub record Valid (m : ℕ) (s : TriangleSet) : Type 0 where
   pub size : q1 m ≡ true
   pub values : q5Writer m (s .three) (s .counts) (s .paid) (s .incurred) ≡ true
+
+-- the set of two triangles that are lent, and that of incurred: `develop` and `incurred_ultimates` look at no other triangle
+abbrev pub countsAndPaid : List ℤ → List ℤ → TriangleSet
+countsAndPaid c p = record { three = false; counts = c; paid = p; incurred = zeros 400 }
+
+abbrev pub incurredAlone : List ℤ → TriangleSet
+incurredAlone t = record { three = true; counts = zeros 400; paid = zeros 400; incurred = t }
+
+pub valid-pair : (m : ℕ) (s : TriangleSet) → Valid m s → Valid m (countsAndPaid (s .counts) (s .paid))
+unfolding q5Writer
+valid-pair m s valid =
+    let e : (eachCell m (λ i j. inRange 0 (cell (s .counts) i j)) && eachCell m (λ i j. inRange 1 (cell (s .paid) i j))) ≡ true = and-left _ _ (valid .values) in
+    record { size = valid .size; values = rw e }
 
 -- a value in its range
 count-so : (v : ℤ) → inRange 0 v ≡ true → (pos 0 ⩽ v) × (natAbs v ≤ 10 ^ 7)

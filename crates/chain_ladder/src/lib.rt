@@ -3,12 +3,12 @@ mod ladder;
 pub mod sums;
 
 ghost use mathlib.Core.Path.{_≡_};
-ghost use mathlib.Core.Bool.{true};
-ghost use Prim.Native.Nat.{_≤_};
+ghost use Prim.Native.Nat.{_^_, _≤_};
 ghost use lib.Signed.{leZ};
 ghost use Rattle.model.specs.Lists.{at, every};
 ghost use Rattle.model.specs.Calls.{noShares, sharesAnswer};
-ghost use Rattle.chain_ladder.specs.Valid.{Valid};
+ghost use Rattle.chain_ladder.specs.Valid.{Valid, countsAndPaid, incurredAlone};
+ghost use Rattle.chain_ladder.specs.Sums.{Small};
 ghost use Rattle.chain_ladder.specs.Developed.{noDeveloped, developed, noIncurred, incurredOf};
 
 // The sums of a triangle of m years: C(i,m-i) at place i - 1, A(j) and B(j) at place j - 1. The other places hold 0.
@@ -73,32 +73,32 @@ fn refused(number: u64) -> Developed
 }
 
 // Questions 9 to 11, and the chain ladder of counts and of paid. Neither's g rises above S or falls with the delay: all are in bounds where g(0) is.
-pub fn develop(set: model::TriangleSet, m: usize) -> Developed
-    requires { ⌜ Valid m set ⌝ }
-    ensures { λ r. ⌜ r ≡ developed m set ⌝ }
+pub fn develop<'a>(counts: &'a [i64; 400], paid: &'a [i64; 400], m: usize) -> Developed
+    requires { ⌜ Valid m (countsAndPaid (now counts) (now paid)) ⌝ }
+    ensures { λ r. ⌜ r ≡ developed m (countsAndPaid (now (counts .entry)) (now (paid .entry))) ⌝ }
 {
-    let counts = sums::sums(&set.counts, m);
-    let rows = counts.latest;
+    let count_sums = sums::sums(counts, m);
+    let rows = count_sums.latest;
     if !at_least(rows, m, 1) {
         return refused(9);
     }
-    let paid = sums::sums(&set.paid, m);
-    let columns = paid.b;
+    let paid_sums = sums::sums(paid, m);
+    let columns = paid_sums.b;
     if !at_least(columns, m - 1, 1) {
         return refused(10);
     }
-    let of_counts = ladder::cumulative_shares(counts, m);
+    let of_counts = ladder::cumulative_shares(count_sums, m);
     if !of_counts.ok {
         return refused(11);
     }
-    let of_paid = ladder::cumulative_shares(paid, m);
+    let of_paid = ladder::cumulative_shares(paid_sums, m);
     if !of_paid.ok {
         return refused(11);
     }
     Developed {
         refusal: 0,
-        counts: ladder::ladder(counts, of_counts, m),
-        paid: ladder::ladder(paid, of_paid, m),
+        counts: ladder::ladder(count_sums, of_counts, m),
+        paid: ladder::ladder(paid_sums, of_paid, m),
     }
 }
 
@@ -113,11 +113,11 @@ fn no_incurred() -> Incurred
 }
 
 // Question 13, and the ultimates of incurred.
-pub fn incurred_ultimates(set: model::TriangleSet, m: usize) -> Incurred
-    requires { ⌜ Valid m set × (set .three ≡ true) ⌝ }
-    ensures { λ r. ⌜ r ≡ incurredOf m set ⌝ }
+pub fn incurred_ultimates(incurred: &[i64; 400], m: usize) -> Incurred
+    requires { ⌜ (1 ≤ m) × Small m (10 ^ 10) (now incurred) ⌝ }
+    ensures { λ r. ⌜ r ≡ incurredOf m (incurredAlone (now (incurred .entry))) ⌝ }
 {
-    let sums = sums::sums(&set.incurred, m);
+    let sums = sums::sums(incurred, m);
     let a = sums.a;
     if !at_least(a, m - 1, 1) {
         return no_incurred();
@@ -164,8 +164,7 @@ pub fn shares(file: &[u8], m: usize) -> model::SharesAnswer
     if read.refusal != 0 {
         return no_shares(read.refusal);
     }
-    let set = read.set;
-    let developed = develop(set, m);
+    let developed = develop(&read.set.counts, &read.set.paid, m);
     if developed.refusal != 0 {
         return no_shares(developed.refusal);
     }

@@ -93,7 +93,7 @@ fn claim_costs_of_set(set: model::TriangleSet, m: usize) -> model::ClaimCostsAns
     requires { ⌜ Valid m set ⌝ }
     ensures { λ r. ⌜ r ≡ costsOfSet m set ⌝ }
 {
-    let developed = chain_ladder::develop(set, m);
+    let developed = chain_ladder::develop(&set.counts, &set.paid, m);
     if developed.refusal != 0 {
         return refused(developed.refusal);
     }

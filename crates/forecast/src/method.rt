@@ -37,7 +37,7 @@ fn incurred(set: TriangleSet, m: usize, method: u64) -> Incurred
             ultimates: [0i64; 20],
         };
     }
-    chain_ladder::incurred_ultimates(set, m)
+    chain_ladder::incurred_ultimates(&set.incurred, m)
 }
 
 // The row bases and left overs of a set, from the chain ladder of its paid triangle.

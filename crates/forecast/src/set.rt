@@ -48,7 +48,7 @@ fn prepare(set: TriangleSet, m: usize, method: u64, basis: u64) -> Prepared
     requires { ⌜ Valid m set × (q6 (set .three) method basis ≡ true) ⌝ }
     ensures { λ r. ⌜ r ≡ prepared m set method ⌝ }
 {
-    let d = chain_ladder::develop(set, m);
+    let d = chain_ladder::develop(&set.counts, &set.paid, m);
     if d.refusal != 0 {
         return not_prepared(d.refusal);
     }

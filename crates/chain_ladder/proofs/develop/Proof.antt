@@ -11,7 +11,7 @@ use Rattle.model.specs.Questions.{q9, q10, q11}
 use Rattle.model.specs.declared.TriangleSet.{TriangleSet}
 use Rattle.chain_ladder.specs.Sums.{sumsOf}
 use Rattle.chain_ladder.specs.Ladder.{bounded}
-use Rattle.chain_ladder.specs.Valid.{Valid, few, paid-small}
+use Rattle.chain_ladder.specs.Valid.{Valid, countsAndPaid, few, paid-small}
 use Rattle.chain_ladder.specs.DevelopedLaws.{some, first-9, first-10, first-11, first-none, developed-no, developed-yes, counts-sized, asked-9, asked-10, columns-9, columns-10, asked-11}
 use Rattle.chain_ladder.specs.declared.Development.{Development}
 use Rattle.chain_ladder.proofs.OneTriangle.{Summed, steps-of, ok-is, ready-of, ladder-of}
@@ -21,13 +21,13 @@ use Rattle.chain_ladder.proofs.develop.Tie as tie
 -- ---- the sums of counts, and question 9
 module _ (c : tie.After-sums) where
   abbrev start : tie.Start
-  start = c .before .before .before
+  start = c .before
 
   abbrev m : ℕ
   m = start .args .m
 
   abbrev set : TriangleSet
-  set = start .args .t1
+  set = countsAndPaid (start .args .counts .now) (start .args .paid .now)
 
   abbrev valid : Valid m set
   valid = start .pre
@@ -42,10 +42,10 @@ answer-9 c = let b = c .before .before in rw (b .sums .ensures) at (c .at-least 
 -- ---- the sums of paid, and question 10
 module _ (c : tie.After-sums2) where
   abbrev one : tie.After-sums
-  one = c .before .before .before .before .before .before
+  one = c .before .before .before .before
 
   yes-9 : q9 (m one) (set one) ≡ true
-  yes-9 = sym (answer-9 (c .before .before .before .before)) ∙ not-false _ (c .before .before .before .if1 .left)
+  yes-9 = sym (answer-9 (c .before .before)) ∙ not-false _ (c .before .if1 .left)
 
   paid-summed : Summed (m one) (set one .paid) (c .sums2 .result)
   paid-summed = record { some = some (m one) (set one) (valid one); small = paid-small (m one) (set one) (valid one); sums = c .sums2 .ensures }
@@ -85,7 +85,7 @@ module _ (c : tie.After-cumulative-shares2) where
   answer-11-paid = answer-11 three true _ yes-counts (sym (ok-is (paid-summed (two three)) (c .cumulative-shares2 .ensures)))
 
 sums-requires : tie.Need-sums-requires
-sums-requires c κs = counts-sized (c .before .before .args .m) (c .before .before .args .t1) (c .before .before .pre)
+sums-requires c κs = counts-sized (c .args .m) (countsAndPaid (c .args .counts .now) (c .args .paid .now)) (c .pre)
 
 at-least-requires : tie.Need-at-least-requires
 at-least-requires c κs = few (m (c .before)) (set (c .before)) (valid (c .before))
@@ -100,7 +100,7 @@ returns c =
     c .refused .ensures ∙ sym (developed-no (m b) (set b) 8 (first-9 (m b) (set b) (sym (answer-9 a) ∙ not-true _ (c .before .if1 .taken))))
 
 sums-requires-2 : tie.Need-sums-requires-2
-sums-requires-2 c κs = let b = c .before .before .before .before .before in paid-small (m b) (set b) (valid b)
+sums-requires-2 c κs = let b = c .before .before .before in paid-small (m b) (set b) (valid b)
 
 sub-at-least : tie.Need-sub-at-least
 sub-at-least c = paid-summed (c .before) .some

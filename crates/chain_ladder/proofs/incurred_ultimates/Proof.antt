@@ -14,8 +14,8 @@ use Rattle.model.specs.declared.TriangleSet.{TriangleSet}
 use Rattle.chain_ladder.specs.Sums.{sumsOf}
 use Rattle.chain_ladder.specs.Ladder.{bounded}
 use Rattle.chain_ladder.specs.LadderLaws.{asked-A, asked-B, asked-signs, columns-above}
-use Rattle.chain_ladder.specs.Valid.{few, incurred-small}
-use Rattle.chain_ladder.specs.DevelopedLaws.{A-above, B-above, latest-least, some, q13-is, incurred-no, incurred-yes}
+use Rattle.chain_ladder.specs.Valid.{incurredAlone}
+use Rattle.chain_ladder.specs.DevelopedLaws.{A-above, B-above, latest-least, q13-is, incurred-no, incurred-yes}
 use Rattle.chain_ladder.proofs.OneTriangle.{Summed, steps-of, ok-is, ready-of, ultimates-of}
 use Rattle.chain_ladder.proofs.incurred_ultimates.Statement.{statement}
 use Rattle.chain_ladder.proofs.incurred_ultimates.Tie as tie
@@ -23,16 +23,16 @@ use Rattle.chain_ladder.proofs.incurred_ultimates.Tie as tie
 -- ---- the sums
 module _ (c : tie.After-sums) where
   abbrev start : tie.Start
-  start = c .before .before .before
+  start = c .before
 
   abbrev m : ℕ
   m = start .args .m
 
   abbrev set : TriangleSet
-  set = start .args .t1
+  set = incurredAlone (start .args .incurred .now)
 
   summed : Summed m (set .incurred) (c .sums .result)
-  summed = record { some = some m set (start .pre .0); small = incurred-small m set (start .pre .0) (start .pre .1); sums = c .sums .ensures }
+  summed = record { some = start .pre .0; small = start .pre .1; sums = c .sums .ensures }
 
   -- question 13 by the tests' answers
   answer : (a b l y : Bool) → A-above m (set .incurred) ≡ a → B-above m (set .incurred) ≡ b → latest-least m (set .incurred) ≡ l → every m (λ j. bounded (g m (set .incurred) j)) ≡ y
@@ -80,7 +80,7 @@ module _ (c : tie.After-cumulative-shares) where
       (sym (ok-is (summed four) (c .cumulative-shares .ensures)))
 
 sums-requires : tie.Need-sums-requires
-sums-requires c κs = incurred-small (c .before .before .args .m) (c .before .before .args .t1) (c .before .before .pre .0) (c .before .before .pre .1)
+sums-requires c κs = c .pre .1
 
 sub-at-least : tie.Need-sub-at-least
 sub-at-least c = summed (c .before) .some

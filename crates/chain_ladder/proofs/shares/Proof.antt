@@ -1,5 +1,5 @@
 -- `shares` meets its contract: the reader's questions, and then those of the chain ladder. Assumes nothing.
-use mathlib.Core.Path.{_≡_, sym, _∙_, ap}
+use mathlib.Core.Path.{_≡_, sym, _∙_, ap, subst}
 use mathlib.Core.List.{List}
 use Prim.Native.Nat.{ℕ}
 use borrow.Author.Needs.{needs}
@@ -9,7 +9,8 @@ use Rattle.model.specs.Calls.{readRefusal, sharesRefusal, sharesOf}
 use Rattle.chain_ladder.specs.Accepted.{valid-set, read-refusal, read-whole}
 use Rattle.chain_ladder.specs.SharesCall.{shares-first, shares-after, shares-no, shares-yes}
 use Rattle.chain_ladder.specs.Developed.{developed, development}
-use Rattle.chain_ladder.specs.DevelopedLaws.{developed-refusal, developed-yes}
+use Rattle.chain_ladder.specs.DevelopedLaws.{developed-refusal, developed-yes, developed-pair}
+use Rattle.chain_ladder.specs.Valid.{Valid, valid-pair}
 use Rattle.chain_ladder.specs.declared.Developed.{Developed}
 use Rattle.chain_ladder.proofs.shares.Statement.{statement}
 use Rattle.chain_ladder.proofs.shares.Tie as tie
@@ -27,7 +28,7 @@ module _ (c : tie.After-read-set) where
 -- the file is accepted
 module _ (c : tie.Else1) where
   abbrev one : tie.After-read-set
-  one = c .before .before
+  one = c .before
 
   yes-file : readRefusal (m one) (f one) ≡ 0
   yes-file = sym (refusal-is one) ∙ c .if1 .left
@@ -37,10 +38,10 @@ module _ (c : tie.Else1) where
 
 module _ (c : tie.After-develop) where
   abbrev two : tie.Else1
-  two = c .before .before
+  two = c .before .before .before .before
 
   developed-is : c .develop .result ≡ developed (m (one two)) (setOf (m (one two)) (f (one two)))
-  developed-is = c .develop .ensures ∙ ap (developed (m (one two))) (set-is two)
+  developed-is = c .develop .ensures ∙ developed-pair (m (one two)) (one two .read-set .result .set) ∙ ap (developed (m (one two))) (set-is two)
 
   refused-by : sharesRefusal (m (one two)) (f (one two)) ≡ c .develop .result .refusal
   refused-by = shares-after (m (one two)) (f (one two)) (yes-file two) ∙ sym (developed-refusal (m (one two)) (setOf (m (one two)) (f (one two))) developed-is)
@@ -53,12 +54,14 @@ no-shares-requires c κs = search needs
 
 returns : tie.Need-returns
 returns c =
-    let b = c .before .before .before in
+    let b = c .before .before in
     let e = refusal-is b in
     c .no-shares .ensures ∙ sym (shares-no (m b) (f b) _ (shares-first (m b) (f b) (λ z. c .before .if1 .taken (e ∙ z)) ∙ sym e) (c .before .if1 .taken))
 
 develop-requires : tie.Need-develop-requires
-develop-requires c κs = let b = c .before in rw (set-is b) (valid-set (m (one b)) (f (one b)) (yes-file b))
+develop-requires c κs =
+    let b = c .before .before .before in
+    valid-pair (m (one b)) (one b .read-set .result .set) (subst (Valid (m (one b))) (sym (set-is b)) (valid-set (m (one b)) (f (one b)) (yes-file b)))
 
 no-shares-requires-2 : tie.Need-no-shares-requires-2
 no-shares-requires-2 c κs = search needs

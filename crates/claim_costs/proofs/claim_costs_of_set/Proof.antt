@@ -7,10 +7,10 @@ use lib.Ieee.Positive.{positive}
 use Rattle.model.specs.Questions.{firstNo, ofShares}
 use Rattle.model.specs.ClaimCosts.{meanCost, claimCosts}
 use Rattle.model.specs.declared.TriangleSet.{TriangleSet}
-use Rattle.chain_ladder.specs.Valid.{Valid, few, paid-small}
+use Rattle.chain_ladder.specs.Valid.{Valid, valid-pair, few, paid-small}
 use Rattle.chain_ladder.specs.Sums.{sumsOf}
-use Rattle.chain_ladder.specs.Developed.{development}
-use Rattle.chain_ladder.specs.DevelopedLaws.{some, developed-refusal, developed-yes}
+use Rattle.chain_ladder.specs.Developed.{developed, development}
+use Rattle.chain_ladder.specs.DevelopedLaws.{some, developed-refusal, developed-yes, developed-pair}
 use Rattle.chain_ladder.specs.declared.Developed.{Developed}
 use Rattle.claim_costs.specs.Costs.{meanCosts, costAt}
 use Rattle.claim_costs.specs.CostsLaws.{mu-positive, costs-exact, factors-exact, costs-are, factors-are, at-meanCosts, inflations-are, set-no, set-yes}
@@ -18,14 +18,20 @@ use Rattle.claim_costs.proofs.claim_costs_of_set.Statement.{statement}
 use Rattle.claim_costs.proofs.claim_costs_of_set.Tie as tie
 
 module _ (c : tie.After-develop) where
+  abbrev start : tie.Start
+  start = c .before .before .before .before
+
   abbrev m : ℕ
-  m = c .before .args .m
+  m = start .args .m
 
   abbrev set : TriangleSet
-  set = c .before .args .t1
+  set = start .args .t1
 
   abbrev valid : Valid m set
-  valid = c .before .pre
+  valid = start .pre
+
+  answer-is : c .develop .result ≡ developed m set
+  answer-is = c .develop .ensures ∙ developed-pair m set
 
   least-size : 1 ≤ m
   least-size = some m set valid
@@ -34,7 +40,7 @@ module _ (c : tie.After-develop) where
   most-size = few m set valid
 
   refusal-is : firstNo (ofShares m set) ≡ c .develop .result .refusal
-  refusal-is = sym (developed-refusal m set (c .develop .ensures))
+  refusal-is = sym (developed-refusal m set answer-is)
 
 -- the set is accepted
 module _ (c : tie.After-u) where
@@ -45,7 +51,7 @@ module _ (c : tie.After-u) where
   accepted = refusal-is one ∙ c .before .before .before .before .if1 .left
 
   developed-is : one .develop .result ≡ record { refusal = 0; counts = development (m one) (set one .counts); paid = development (m one) (set one .paid) }
-  developed-is = one .develop .ensures ∙ developed-yes (m one) (set one) accepted
+  developed-is = answer-is one ∙ developed-yes (m one) (set one) accepted
 
 -- the mean costs, and mu
 module _ (c : tie.After-quotients) where
@@ -80,7 +86,7 @@ inflations-is c =
     ∙ inflations-are (m b) (set b) (most-size b) (least-size b) (ap (λ (x : Developed). x .paid .ultimates) (developed-is (q .before))) (costs-is q)
 
 develop-requires : tie.Need-develop-requires
-develop-requires c κs = search needs
+develop-requires c κs = valid-pair (c .before .before .before .args .m) (c .before .before .before .args .t1) (c .before .before .before .pre)
 
 refused-requires : tie.Need-refused-requires
 refused-requires c κs = search needs

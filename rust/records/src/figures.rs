@@ -63,7 +63,7 @@ fn entry(name: &str, taken: &str) -> Option<(String, u64)> {
     Some((name.to_string(), taken.parse().ok()?))
 }
 
-/// The section. A crate that no run of the gate has checked yet has no seconds.
+/// The section. What no run of the gate has timed yet has no seconds.
 pub fn section(seconds: &Seconds) -> io::Result<String> {
     let mut text = HEAD.to_string();
     let (mut all, mut all_taken) = ([0; 4], 0);
@@ -84,6 +84,9 @@ pub fn section(seconds: &Seconds) -> io::Result<String> {
         all_taken += taken.unwrap_or_default();
     }
     text += &row("all", &all, Some(all_taken));
+    if seconds.parts.is_empty() {
+        return Ok(text);
+    }
     text += "\n| part of the gate | seconds |\n|---|---|\n";
     for (name, taken) in &seconds.parts {
         text += &row(name, &[], Some(*taken));

@@ -73,7 +73,9 @@ pub mod plain {
 
     #[inline(never)]
     pub extern "C" fn round_div(a: i64, b: i64) -> i64 {
-        if a.unsigned_abs() > 9_000_000_000_000_000_000 || !(1..=1_000_000_000_000_000_000).contains(&b) {
+        if a.unsigned_abs() > 9_000_000_000_000_000_000
+            || !(1..=1_000_000_000_000_000_000).contains(&b)
+        {
             return OUTSIDE;
         }
         nearest(a as i128, b) as i64
@@ -81,7 +83,10 @@ pub mod plain {
 
     #[inline(never)]
     pub extern "C" fn share(g: i64, a: i64, b: i64) -> i64 {
-        if !(0..=4_000_000_000).contains(&g) || !(1..=1_100_000_000_000).contains(&b) || !(0..=b).contains(&a) {
+        if !(0..=4_000_000_000).contains(&g)
+            || !(1..=1_100_000_000_000).contains(&b)
+            || !(0..=b).contains(&a)
+        {
             return OUTSIDE;
         }
         nearest(g as i128 * a as i128, b) as i64
@@ -98,7 +103,11 @@ pub mod plain {
     #[inline(never)]
     pub extern "C" fn row_base(u: i64, w: i64, d: i64, cap: u64) -> i64 {
         const MOST: u64 = 210_000_000_000_000;
-        if u.unsigned_abs() > MOST || w.unsigned_abs() > MOST || !(1..=MOST as i64).contains(&d) || cap > MOST {
+        if u.unsigned_abs() > MOST
+            || w.unsigned_abs() > MOST
+            || !(1..=MOST as i64).contains(&d)
+            || cap > MOST
+        {
             return OUTSIDE;
         }
         let k = nearest(u as i128 * w as i128, d);
@@ -122,7 +131,7 @@ pub mod plain {
 pub struct Numbers(pub u64);
 
 impl Numbers {
-    pub fn next(&mut self) -> u64 {
+    pub fn number(&mut self) -> u64 {
         self.0 ^= self.0 << 13;
         self.0 ^= self.0 >> 7;
         self.0 ^= self.0 << 17;
@@ -131,19 +140,19 @@ impl Numbers {
 
     /// From 0 to most, evenly.
     pub fn below(&mut self, most: u64) -> u64 {
-        self.next() % (most + 1)
+        self.number() % (most + 1)
     }
 
     /// From 0 to most, of every size, and often an end of the range.
     pub fn edgy(&mut self, most: u64) -> u64 {
-        match self.next() % 16 {
+        match self.number() % 16 {
             0 => most,
             1 => most - 1,
             2 => 0,
             3 => 1.min(most),
             _ => {
-                let cut = self.next() % 64;
-                (self.next() >> cut) % (most + 1)
+                let cut = self.number() % 64;
+                (self.number() >> cut) % (most + 1)
             }
         }
     }
@@ -151,7 +160,7 @@ impl Numbers {
     /// As `edgy`, with either sign.
     pub fn signed(&mut self, most: u64) -> i64 {
         let size = self.edgy(most) as i64;
-        if self.next() & 1 == 0 {
+        if self.number() & 1 == 0 {
             size
         } else {
             -size

@@ -5,13 +5,11 @@
 mod difference;
 mod files;
 mod memory;
-mod records;
 mod respond;
 mod tally;
 mod writer;
 
 pub use difference::Difference;
-pub use records::records;
 
 use std::collections::BTreeMap;
 

@@ -7,10 +7,6 @@ use reference::source_002::{exact_years, set, PRINTED};
 use reference::Big;
 
 const HEAD: &str = "\
-# Records
-
-Written by `cargo run --offline -p compare --bin records >../docs/RECORDS.md` in `rust/`; a test of the gate writes it again and compares.
-
 ## Source document 002
 
 The paper prints a chain-ladder column, CLM, by calendar year, and does not give its rounding. Its triangles (ten accident years, counts and paid) are
@@ -21,8 +17,8 @@ method 0, basis 1; the differences are to the unrounded one.
 |---|---|---|---|---|---|
 ";
 
-/// The text of docs/RECORDS.md.
-pub fn records() -> Result<String, Refusal> {
+/// The section.
+pub fn section() -> Result<String, Refusal> {
     let m = set().m;
     let forecast = forecast(&file(&set()), m, Method::Dcl, Basis::Estimated)?;
     let mut text = HEAD.to_string();

@@ -1,8 +1,0 @@
-//! Prints docs/RECORDS.md.
-
-fn main() {
-    match compare::records() {
-        Ok(text) => print!("{text}"),
-        Err(refusal) => eprintln!("{refusal}"),
-    }
-}

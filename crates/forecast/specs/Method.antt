@@ -13,9 +13,12 @@ use Rattle.model.specs.Questions.{firstNo, ofMethod}
 use Rattle.model.specs.Calls.{ifAccepted, zeros}
 use Rattle.model.specs.declared.TriangleSet.{TriangleSet}
 use Rattle.chain_ladder.specs.declared.Incurred.{Incurred}
+use Rattle.chain_ladder.specs.declared.Development.{Development}
+use Rattle.chain_ladder.specs.Sums.{Small}
 use Rattle.chain_ladder.specs.Developed.{incurredOf}
-use Rattle.chain_ladder.specs.Valid.{Valid}
+use Rattle.chain_ladder.specs.Valid.{Valid, incurredAlone}
 use Rattle.chain_ladder.specs.SharesLaws.{Sound}
+use Rattle.cells.specs.Bases.{leftAt, AllSizes, basesOf}
 use Rattle.forecast.specs.declared.method.MethodBases.{MethodBases}
 
 -- V(i) at place i - 1
@@ -31,9 +34,23 @@ methodBases m s method =
     let n = firstNo (ofMethod m s method) in
     record { refusal = n; v = ifAccepted n (rowBases m s method) (zeros 20); leftovers = ifAccepted n (leftOvers m s method) (zeros 20) }
 
--- W under methods 1 and 2; zeros under method 0, where incurred is not asked for
-unfoldable pub incurredUnder : ℕ → TriangleSet → ℕ → Incurred
-incurredUnder m s method = cond (eqb method 0) (record { ok = true; ultimates = zeros 20 }) (incurredOf m s)
+-- W of the incurred triangle t under methods 1 and 2; zeros under method 0, where incurred is not asked for
+unfoldable pub incurredUnder : ℕ → List ℤ → ℕ → Incurred
+incurredUnder m t method = cond (eqb method 0) (record { ok = true; ultimates = zeros 20 }) (incurredOf m (incurredAlone t))
+
+-- the same lists, from the chain ladder d of paid and what there is of incurred
+unfoldable pub basesFrom : ℕ → ℕ → Development → Incurred → MethodBases
+basesFrom m method d x =
+    let b = basesOf m method (d .ultimates) (d .latest) (x .ultimates) in
+    let left = listed 20 m (leftAt m method (d .ultimates) (d .latest) (x .ultimates)) (pos 0) in
+    cond (x .ok) (cond (b .ok) (record { refusal = 0; v = b .v; leftovers = left }) (noBases 14)) (noBases 13)
+
+-- what they ask
+pub record Sized (m method : ℕ) (d : Development) (t : List ℤ) : Type 0 where
+  pub some : 1 ≤ m
+  pub few : m ≤ 20
+  pub incurred : (method ≡ 0 → ⊥) → Small m (10 ^ 10) t
+  pub years : incurredUnder m t method .ok ≡ true → AllSizes m method (d .ultimates) (d .latest) (incurredUnder m t method .ultimates)
 
 -- what questions 1, 5, 6 and 9 to 11 give: a method that is known, with its incurred, and a sound paid triangle with g(0) of at least 10^6
 pub record Asked (m : ℕ) (s : TriangleSet) (method : ℕ) : Type 0 where

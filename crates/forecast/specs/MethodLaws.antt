@@ -23,9 +23,11 @@ use Rattle.model.specs.Questions.{within, usesIncurred, firstNo, ofMethod, q13,
 use Rattle.model.specs.QuestionsLaws.{yes-first, no-first, all-yes, within-so, within-yes}
 use Rattle.model.specs.Calls.{zeros}
 use Rattle.model.specs.declared.TriangleSet.{TriangleSet}
+use Rattle.triangles.specs.Tests.{by-test}
 use Rattle.chain_ladder.specs.declared.Incurred.{Incurred}
-use Rattle.chain_ladder.specs.Developed.{incurredOf}
-use Rattle.chain_ladder.specs.DevelopedLaws.{incurred-yes}
+use Rattle.chain_ladder.specs.declared.Development.{Development}
+use Rattle.chain_ladder.specs.Developed.{development, incurredOf}
+use Rattle.chain_ladder.specs.DevelopedLaws.{some, incurred-yes, incurred-alone}
 use Rattle.chain_ladder.specs.LadderLaws.{at-latests, bounded-first}
 use Rattle.chain_ladder.specs.Sums.{latests}
 use Rattle.chain_ladder.specs.Ladder.{bounded}
@@ -33,7 +35,7 @@ use Rattle.chain_ladder.specs.SharesLaws.{latest-nonneg, at-ultimates}
 use Rattle.chain_ladder.specs.UltimatesLaws.{ultimate-nonneg, ultimate-small, latest-ultimate, ultimate-first, latest-first}
 use Rattle.chain_ladder.specs.Valid.{Valid, few, least, paid-small, incurred-small}
 use Rattle.cells.specs.Bases.{Year, Sizes, baseFrom, leftFrom, baseAt, leftAt, AllSizes, basesOf}
-use Rattle.forecast.specs.Method.{Asked, Incurreds, rowBases, methodBases, noBases, incurredUnder}
+use Rattle.forecast.specs.Method.{Asked, Incurreds, Sized, rowBases, methodBases, noBases, incurredUnder, basesFrom}
 
 -- a magnitude of at most n
 pub magnitude-within : (n : ℕ) (z : ℤ) → leb (natAbs z) n ≡ within (negℤ (pos n)) (pos n) z
@@ -234,16 +236,16 @@ module _ (m : ℕ) (s : TriangleSet) (method : ℕ) where
   accepted h n a b = accepted-with (both h n a b)
 
   -- the ultimates of incurred that the method uses
-  pub under-none : method ≡ 0 → incurredUnder m s method ≡ record { ok = true; ultimates = zeros 20 }
+  pub under-none : method ≡ 0 → incurredUnder m (s .incurred) method ≡ record { ok = true; ultimates = zeros 20 }
   unfolding incurredUnder
   under-none q = rw q
 
-  pub under-some : (method ≡ 0 → ⊥) → incurredUnder m s method ≡ incurredOf m s
+  pub under-some : (method ≡ 0 → ⊥) → incurredUnder m (s .incurred) method ≡ incurredOf m s
   unfolding incurredUnder
-  under-some n = rw (ne-eqb method 0 n)
+  under-some n = rw (ne-eqb method 0 n) (incurred-alone m s)
 
 -- ---- as the code asks: x is what it has of incurred
-module _ (m : ℕ) (s : TriangleSet) (method : ℕ) (asked : Asked m s method) (x : Incurred) (is : x ≡ incurredUnder m s method) where
+module _ (m : ℕ) (s : TriangleSet) (method : ℕ) (asked : Asked m s method) (x : Incurred) (is : x ≡ incurredUnder m (s .incurred) method) where
   -- method 0, or question 13
   by-method : {P : Type 0} → (method ≡ 0 → x ≡ record { ok = true; ultimates = zeros 20 } → P) → ((method ≡ 0 → ⊥) → x ≡ incurredOf m s → P) → P
   by-method {P} f g = go (eqb method 0) refl
@@ -280,6 +282,53 @@ module _ (m : ℕ) (s : TriangleSet) (method : ℕ) (asked : Asked m s method) (
     answer-yes f =
         by-method (λ q e. accepted-with m s method (none-asked m s method q))
         (λ n e. accepted m s method (asked .known) n (sym (ok-is e) ∙ t) (sym (asked-14 m s method asked (x .ultimates) (incurreds t)) ∙ f))
+
+-- ---- the lists from their parts
+module _ (m method : ℕ) (d : Development) (x : Incurred) where
+  pub from-13 : x .ok ≡ false → basesFrom m method d x ≡ noBases 13
+  unfolding basesFrom
+  from-13 e = rw e
+
+  module _ (has : x .ok ≡ true) where
+    pub from-14 : basesOf m method (d .ultimates) (d .latest) (x .ultimates) .ok ≡ false → basesFrom m method d x ≡ noBases 14
+    unfolding basesFrom
+    from-14 e = rw (has, e)
+
+    pub from-yes : basesOf m method (d .ultimates) (d .latest) (x .ultimates) .ok ≡ true → basesFrom m method d x ≡ record { refusal = 0; v = basesOf m method (d .ultimates) (d .latest) (x .ultimates) .v; leftovers = listed 20 m (leftAt m method (d .ultimates) (d .latest) (x .ultimates)) (pos 0) }
+    unfolding basesFrom
+    from-yes e = rw (has, e)
+
+module _ (m : ℕ) (s : TriangleSet) (method : ℕ) (asked : Asked m s method) where
+  abbrev x : Incurred
+  x = incurredUnder m (s .incurred) method
+
+  abbrev d : Development
+  d = development m (s .paid)
+
+  have : x .ok ≡ true → Incurreds m s method (x .ultimates)
+  have = incurreds m s method asked x refl
+
+  pub sized : Sized m method d (s .incurred)
+  unfolding development
+  sized = record {
+    some = some m s (asked .valid);
+    few = few m s (asked .valid);
+    incurred = λ n. incurred-small m s (asked .valid) (asked .three n);
+    years = λ has. sizes m s method asked (x .ultimates) (have has);
+  }
+
+  pub from-parts : basesFrom m method d x ≡ methodBases m s method
+  unfolding development basesOf
+  from-parts = by-test (x .ok) with-incurred (λ no. from-13 m method d x no ∙ sym (answer-13 m s method asked x refl no))
+    where
+      with-incurred : x .ok ≡ true → basesFrom m method d x ≡ methodBases m s method
+      with-incurred has =
+          by-test (basesOf m method (d .ultimates) (d .latest) (x .ultimates) .ok)
+          (λ in-range.
+          from-yes m method d x has in-range
+          ∙ ap₂ (λ (v l : List ℤ). record { refusal = 0; v = v; leftovers = l }) (rw in-range (bases-are m s method asked (x .ultimates) (have has))) (lefts-are m s method asked (x .ultimates) (have has))
+          ∙ sym (answer-yes m s method asked x refl has in-range))
+          (λ out. from-14 m method d x has out ∙ sym (answer-14 m s method asked x refl has out))
 
 -- ---- the bases of an accepted set are within question 14's range
 module _ (m : ℕ) (s : TriangleSet) (method : ℕ) (asked : Asked m s method) (accepted : firstNo (ofMethod m s method) ≡ 0) where

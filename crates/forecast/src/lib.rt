@@ -43,13 +43,11 @@ pub fn forecast(file: &[u8], m: usize, method: u64, basis: u64, out: &mut [i64])
     if read.refusal != 0 {
         return refused(read.refusal);
     }
-    let set = read.set;
-    let three = set.three;
-    if !method_known(three, method, basis) {
+    if !method_known(read.set.three, method, basis) {
         return refused(6);
     }
     if out.len() < 2 * m * (2 * m - 1) {
         return refused(7);
     }
-    forecast_set(set, m, method, basis, out)
+    forecast_set(read.set, m, method, basis, out)
 }

@@ -3,10 +3,10 @@ use cells::bases::left_overs;
 use cells::bases::row_bases;
 use chain_ladder::Development;
 use chain_ladder::Incurred;
-use model::TriangleSet;
 ghost use mathlib.Core.Path.{_≡_};
-ghost use Rattle.chain_ladder.specs.Developed.{development};
-ghost use Rattle.forecast.specs.Method.{Asked, noBases, incurredUnder, methodBases};
+ghost use Prim.Native.Nat.{_^_, _≤_};
+ghost use Rattle.chain_ladder.specs.Sums.{Small};
+ghost use Rattle.forecast.specs.Method.{Sized, noBases, incurredUnder, basesFrom};
 
 // V(i) and the left over of year i, both at place i - 1. A refusal of 0 says that the questions got a yes; beside another stand zeros.
 pub struct MethodBases {
@@ -27,9 +27,9 @@ fn no_bases(number: u64) -> MethodBases
 }
 
 // The ultimates of incurred, where the method uses them.
-fn incurred(set: TriangleSet, m: usize, method: u64) -> Incurred
-    requires { ⌜ Asked m set method ⌝ }
-    ensures { λ r. ⌜ r ≡ incurredUnder m set method ⌝ }
+fn incurred_under(incurred: &[i64; 400], m: usize, method: u64) -> Incurred
+    requires { ⌜ (1 ≤ m) × ((method ≡ 0 → ⊥) → Small m (10 ^ 10) (now incurred)) ⌝ }
+    ensures { λ r. ⌜ r ≡ incurredUnder m (now (incurred .entry)) method ⌝ }
 {
     if method == 0 {
         return Incurred {
@@ -37,21 +37,21 @@ fn incurred(set: TriangleSet, m: usize, method: u64) -> Incurred
             ultimates: [0i64; 20],
         };
     }
-    chain_ladder::incurred_ultimates(&set.incurred, m)
+    chain_ladder::incurred_ultimates(incurred, m)
 }
 
-// The row bases and left overs of a set, from the chain ladder of its paid triangle.
-pub fn method_bases(set: TriangleSet, m: usize, method: u64, paid: Development) -> MethodBases
-    requires { ⌜ Asked m set method × (paid ≡ development m (set .paid)) ⌝ }
-    ensures { λ r. ⌜ r ≡ methodBases m set method ⌝ }
+// The row bases and left overs of a set, from the chain ladder of its paid triangle and its incurred triangle.
+pub fn method_bases(paid: Development, incurred: &[i64; 400], m: usize, method: u64) -> MethodBases
+    requires { ⌜ Sized m method paid (now incurred) ⌝ }
+    ensures { λ r. ⌜ r ≡ basesFrom m method paid (incurredUnder m (now (incurred .entry)) method) ⌝ }
 {
-    let incurred = incurred(set, m, method);
-    if !incurred.ok {
+    let of_incurred = incurred_under(incurred, m, method);
+    if !of_incurred.ok {
         return no_bases(13);
     }
     let u = paid.ultimates;
     let c = paid.latest;
-    let w = incurred.ultimates;
+    let w = of_incurred.ultimates;
     let bases = row_bases(m, method, u, c, w);
     if !bases.ok {
         return no_bases(14);

@@ -60,7 +60,7 @@ fn prepare(set: TriangleSet, m: usize, method: u64, basis: u64) -> Prepared
     if !solved.ok {
         return not_prepared(12);
     }
-    let bases = method_bases(set, m, method, paid);
+    let bases = method_bases(paid, &set.incurred, m, method);
     if bases.refusal != 0 {
         return not_prepared(bases.refusal);
     }

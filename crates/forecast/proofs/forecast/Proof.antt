@@ -61,11 +61,11 @@ module _ (c : tie.Else1) where
   set-is = read-whole (m one) (f one) (one .read-set .ensures) (c .if1 .left)
 
 -- question 6
-asked-6 : (c : tie.After-method-known) → (let e = c .before .before in let d = one e in
+asked-6 : (c : tie.After-method-known) → (let e = c .before in let d = one e in
     c .method-known .result ≡ q6 (hasIncurred (m d) (f d)) (start d .args .method) (start d .args .basis))
 unfolding setOf
 asked-6 c =
-    let e = c .before .before in
+    let e = c .before in
     let d = one e in
     c .method-known .ensures ∙ ap (λ (t : TriangleSet). q6 (t .three) (start d .args .method) (start d .args .basis)) (set-is e)
 
@@ -90,22 +90,22 @@ refused-requires-2 c κs = search needs
 returns-2 : tie.Need-returns-2
 returns-2 c =
     let k = c .before .before in
-    let e = k .before .before in
+    let e = k .before in
     let d = one e in
     no d 6 (c .refused2 .result) (λ z. omega arith) (by-method (m d) (f d) (start d .args .method) (start d .args .basis) (before d) (accepted e) (sym (asked-6 k) ∙ not-true (k .method-known .result) (c .before .if2 .taken))) (c .refused2 .ensures)
 
 mul-if3 : tie.Need-mul-if3
-mul-if3 c = omega (arith, sized (c .before .before .before))
+mul-if3 c = omega (arith, sized (c .before .before))
 
 mul-if3-2 : tie.Need-mul-if3-2
-mul-if3-2 c = omega (arith, sized (c .before .before .before))
+mul-if3-2 c = omega (arith, sized (c .before .before))
 
 sub-if3 : tie.Need-sub-if3
-sub-if3 c = omega (arith, sized (c .before .before .before))
+sub-if3 c = omega (arith, sized (c .before .before))
 
 mul-if3-3 : tie.Need-mul-if3-3
 mul-if3-3 c =
-    let e = c .before .before .before in
+    let e = c .before .before in
     let a : 2 * m (one e) ≤ 40 = omega (arith, sized e) in
     let b : 2 * m (one e) - 1 ≤ 39 = omega (arith, sized e) in
     let p = mul-le-mul a b in
@@ -117,7 +117,7 @@ refused-requires-3 c κs = search needs
 returns-3 : tie.Need-returns-3
 returns-3 c =
     let k = c .before .before .before in
-    let e = k .before .before in
+    let e = k .before in
     let d = one e in
     no d 7 (c .refused3 .result) (λ z. omega arith)
     (by-room (m d) (f d) (start d .args .method) (start d .args .basis) (before d) (accepted e) (sym (asked-6 k) ∙ not-false (k .method-known .result) (c .before .before .if2 .left)) (c .before .if3 .taken)) (c .refused3 .ensures)
@@ -125,7 +125,7 @@ returns-3 c =
 forecast-set-requires : tie.Need-forecast-set-requires
 forecast-set-requires c κs =
     let k = c .before .before .before in
-    let e = k .before .before in
+    let e = k .before in
     let d = one e in
     let six = sym (k .method-known .ensures) ∙ not-false (k .method-known .result) (c .before .before .if2 .left) in
     (subst (Valid (m d)) (sym (set-is e)) (valid e), six, c .before .if3 .left)
@@ -137,7 +137,7 @@ returns-4 : tie.Need-returns-4
 returns-4 c =
     let n = c .before .before .before in
     let k = n .before .before in
-    let e = k .before .before in
+    let e = k .before in
     let d = one e in
     let w = c .before .forecast-set in
     forecasted (m d) (f d) (start d .args .method) (start d .args .basis) (before d) (accepted e) (sym (asked-6 k) ∙ not-false (k .method-known .result) (n .before .if2 .left)) (n .if3 .left) (w .result) (w .last .1 .1 .1 .1 .0)

@@ -46,16 +46,13 @@ fn read_records(file: &[u8], m: usize, three: bool) -> model::ReadAnswer
     if !answers.ranged {
         return refused(5);
     }
-    let counts = cells::of_kind(&cells, 0);
-    let paid = cells::of_kind(&cells, 1);
-    let incurred = cells::of_kind(&cells, 2);
     model::ReadAnswer {
         refusal: 0,
         set: model::TriangleSet {
             three,
-            counts,
-            paid,
-            incurred,
+            counts: cells::of_kind(&cells, 0),
+            paid: cells::of_kind(&cells, 1),
+            incurred: cells::of_kind(&cells, 2),
         },
     }
 }

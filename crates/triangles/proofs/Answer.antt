@@ -4,12 +4,10 @@ use native.Mathlib.Omega.{arith}
 use mathlib.Core.Path.{_≡_, refl, sym, _∙_}
 use mathlib.Core.Bool.{Bool, true, false, cond}
 use mathlib.Core.List.{List}
-use borrow.Author.Tests.{leb-true}
 use lib.Dec.{leb, eqb·suc-zero}
 use lib.IntN.{ℤ}
 use lib.ListN.{length}
 use Rattle.model.specs.Lists.{at, every, total, tabulate}
-use Rattle.model.specs.ListsLaws.{every-at}
 use Rattle.model.specs.Records.{records, hasIncurred, setOf}
 use Rattle.model.specs.Questions.{q1, q2, q3, q4, q5, kinds, firstNo, ofRecords, ofFile}
 use Rattle.model.specs.Calls.{readRefusal, readAnswer, noSet}
@@ -17,7 +15,7 @@ use Rattle.triangles.specs.Tests.{by-test}
 use Rattle.triangles.specs.OneRecord.{wellFormed, q3-formed, ranged}
 use Rattle.triangles.specs.Places.{cells-of}
 use Rattle.triangles.specs.Lengths.{size-so, length-so}
-use Rattle.triangles.specs.Keys.{Keyed, Distinct, keyCount, keySum}
+use Rattle.triangles.specs.Keys.{Keyed, keyCount, keySum}
 use Rattle.triangles.proofs.Once.{cellKey, cell-keys, keyed, fourth, triangle-key}
 
 full-number : (three : Bool) (n x l : ℕ) → 2 * n ≡ x → l ≡ cond three 24 16 * x → kinds three * n ≡ l / 16
@@ -67,9 +65,6 @@ module _ (m : ℕ) (f : List ℕ) where
         no-4 h = no 3 (rw (a, b, sym third ∙ formed, sym once ∙ h))
 
         module _ (single : every 1200 (λ q. leb (keyCount f (records f) q) 1) ≡ true) where
-          pub all-distinct : Distinct f (records f)
-          all-distinct q l = leb-true (keyCount f (records f) q) 1 (every-at (λ q. leb (keyCount f (records f) q) 1) 1200 q single l)
-
           pub no-5 : every (records f) (ranged f) ≡ false → record { refusal = 5; set = noSet } ≡ readAnswer m f
           unfolding readRefusal firstNo ofFile ofRecords q5 ranged
           no-5 h = no 4 (rw (a, b, sym third ∙ formed, sym once ∙ single, h))

@@ -16,7 +16,7 @@ use Rattle.model.specs.Lists.{at, total, count}
 use Rattle.model.specs.Records.{valueAt}
 use Rattle.triangles.specs.Tests.{by-test}
 use Rattle.triangles.specs.Stores.{getD-set}
-use Rattle.triangles.specs.Keys.{keyAt, keyCount, keySum, Distinct}
+use Rattle.triangles.specs.Keys.{keyAt, keyCount, keySum}
 
 module _ (f : List ℕ) where
   pub count-none : (q : ℕ) → keyCount f 0 q ≡ 0
@@ -83,12 +83,9 @@ module _ (f : List ℕ) where
   cells-none = (refl, λ q h. getD-replicate 1200 q (pos 0) (pos 0) h ∙ sym (sum-none q))
 
   pub cells-more :
-      (n k q : ℕ) (v : ℤ) (out : List ℤ) → Distinct f n → k < n → q ≡ keyAt f k → q < 1200 → v ≡ valueAt f k → Cells k out → Cells (k + 1) (set out q v)
-  cells-more n k q v out once kn e l ev is = (simp length-set (is .0), one)
+      (k q : ℕ) (v : ℤ) (out : List ℤ) → q ≡ keyAt f k → q < 1200 → keyCount f k q ≡ 0 → v ≡ valueAt f k → Cells k out → Cells (k + 1) (set out q v)
+  cells-more k q v out e l new ev is = (simp length-set (is .0), one)
     where
-      new : keyCount f k q ≡ 0
-      new = rw e (omega (arith, count-at n k kn, rw e at (once q l)))
-
       one : (r : ℕ) → r < 1200 → at (set out q v) r ≡ keySum f (k + 1) r
       one r h =
           rw (getD-set out q r v (pos 0) (omega (arith, is .0)), sum-more k r, ← e, ← ev)

@@ -1,12 +1,14 @@
 -- A record's key: the number of its kind and cell among three lists of 400 places, one after the other.
+use mathlib.Core.Path.{_≡_}
 use Prim.Native.Nat.{ℕ, _+_, _-_, _*_, _≤_, _<_}
-use mathlib.Core.Bool.{cond}
+use mathlib.Core.Bool.{Bool, true, cond}
 use mathlib.Core.List.{List}
-use lib.Dec.{eqb}
+use lib.Dec.{leb, eqb}
 use lib.IntN.{ℤ, pos}
 use Rattle.integers.specs.Sums.{sum}
-use Rattle.model.specs.Lists.{count}
+use Rattle.model.specs.Lists.{at, every, count}
 use Rattle.model.specs.Records.{kindAt, yearAt, delayAt, valueAt}
+use Rattle.triangles.specs.OneRecord.{ranged}
 
 unfoldable pub keyAt : List ℕ → ℕ → ℕ
 keyAt f k = 400 * kindAt f k + (20 * (yearAt f k - 1) + delayAt f k)
@@ -26,3 +28,9 @@ keySum f n q = sum n (λ k. cond (eqb (keyAt f k) q) (valueAt f k) (pos 0))
 -- no key stands twice among the first n records
 abbrev pub Distinct : List ℕ → ℕ → Type 0
 Distinct f n = (q : ℕ) → q < 1200 → keyCount f n q ≤ 1
+
+-- whether no key stands twice among the first n records; where none does, whether their values are in range, and the value of each key
+pub record ByKey (f : List ℕ) (n : ℕ) (once inRange : Bool) (values : List ℤ) : Type 0 where
+  pub onceIs : once ≡ every 1200 (λ q. leb (keyCount f n q) 1)
+  pub rangedIs : once ≡ true → inRange ≡ every n (ranged f)
+  pub valuesAre : once ≡ true → (q : ℕ) → q < 1200 → at values q ≡ keySum f n q

@@ -1,26 +1,44 @@
-// The cells of an accepted file.
+// The cells of a file.
 use crate::fields;
+use crate::questions;
 ghost use mathlib.Core.Path.{_≡_};
-ghost use Prim.Native.Nat.{ℕ, _+_, _*_, _≤_, _<_};
-ghost use lib.ListN.{length};
+ghost use Prim.Native.Nat.{_+_, _*_, _≤_, _<_};
+ghost use lib.IntN.{pos};
+ghost use lib.ListN.{length, replicate};
 ghost use Rattle.model.specs.Lists.{at, tabulate};
-ghost use Rattle.triangles.specs.Keys.{Keyed, Distinct, keySum};
+ghost use Rattle.triangles.specs.Keys.{Keyed, ByKey};
 
-// The values of the first n records, each at its key; zeros in the other places.
-pub fn by_key(file: &[u8], n: usize) -> [i64; 1200]
+// The answers of questions 4 and 5.
+pub struct CellAnswers {
+    pub once: bool,
+    pub ranged: bool,
+}
+
+// Question 4, that no key stands twice among the first n records; where none does, question 5 and the values, each at its key, zeros in the other places.
+// The file is as long as a set, so that then each cell stands there once.
+pub fn by_key(file: &[u8], n: usize, values: &mut [i64; 1200]) -> CellAnswers
     requires { ⌜ 16 * n ≤ length (now file) ⌝ }
     requires { ⌜ Keyed (now file) n ⌝ }
-    requires { ⌜ Distinct (now file) n ⌝ }
-    ensures { λ r. ⌜ ((q : ℕ) → q < 1200 → at r q ≡ keySum (now (file .entry)) n q) ⌝ }
+    requires { ⌜ now values ≡ replicate 1200 (pos 0) ⌝ }
+    ensures { λ r. ⌜ ByKey (now (file .entry)) n (r .once) (r .ranged) (now (values .exit)) ⌝ }
 {
-    let mut out = [0i64; 1200];
+    let mut seen = [0u8; 1200];
+    let mut ranged = true;
     let mut k = 0;
     while k < n {
         let q = fields::key(file, k);
-        out[q] = fields::value(file, k);
+        if seen[q] != 0 {
+            return CellAnswers {
+                once: false,
+                ranged,
+            };
+        }
+        seen[q] = 1;
+        values[q] = fields::value(file, k);
+        ranged = ranged & questions::value_ok(file, k);
         k += 1;
     }
-    out
+    CellAnswers { once: true, ranged }
 }
 
 // The 400 places of one kind.

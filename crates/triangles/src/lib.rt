@@ -38,23 +38,21 @@ fn read_records(file: &[u8], m: usize, three: bool) -> model::ReadAnswer
     if !questions::records_ok(file, m, kinds, n) {
         return refused(3);
     }
-    if !questions::cells_once(file, n) {
+    let mut cells = [0i64; 1200];
+    let answers = cells::by_key(file, n, &mut cells);
+    if !answers.once {
         return refused(4);
     }
-    if !questions::values_ok(file, n) {
+    if !answers.ranged {
         return refused(5);
     }
-    let cells = cells::by_key(file, n);
-    let counts = cells::of_kind(&cells, 0);
-    let paid = cells::of_kind(&cells, 1);
-    let incurred = cells::of_kind(&cells, 2);
     model::ReadAnswer {
         refusal: 0,
         set: model::TriangleSet {
             three,
-            counts,
-            paid,
-            incurred,
+            counts: cells::of_kind(&cells, 0),
+            paid: cells::of_kind(&cells, 1),
+            incurred: cells::of_kind(&cells, 2),
         },
     }
 }

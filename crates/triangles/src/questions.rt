@@ -1,15 +1,14 @@
-// The questions 3 to 5 of the first n records of a file, and the writer's question 5.
+// Question 3 of the first n records of a file, question 5 of a record, and the writer's question 5.
 use crate::fields;
 ghost use mathlib.Core.Path.{_≡_};
 ghost use mathlib.Core.Bool.{_||_, not, cond};
 ghost use Prim.Native.Nat.{_+_, _-_, _*_, _^_, _≤_};
-ghost use lib.Dec.{ltb, leb, eqb};
+ghost use lib.Dec.{ltb, eqb};
 ghost use lib.IntN.{pos, negsuc};
 ghost use lib.ListN.{length};
 ghost use Rattle.model.specs.Lists.{every};
 ghost use Rattle.model.specs.Records.{cell, inRange};
 ghost use Rattle.model.specs.Questions.{kinds, eachCell, q5Writer};
-ghost use Rattle.triangles.specs.Keys.{Keyed, keyCount};
 ghost use Rattle.triangles.specs.OneRecord.{wellFormed, ranged};
 ghost use Rattle.triangles.specs.Places.{insideAt};
 
@@ -56,25 +55,6 @@ pub fn records_ok(file: &[u8], m: usize, kinds: usize, n: usize) -> bool
     true
 }
 
-// Question 4: no key stands twice. The file is as long as a set, so that then each stands there once.
-pub fn cells_once(file: &[u8], n: usize) -> bool
-    requires { ⌜ 16 * n ≤ length (now file) ⌝ }
-    requires { ⌜ Keyed (now file) n ⌝ }
-    ensures { λ r. ⌜ r ≡ every 1200 (λ q. leb (keyCount (now (file .entry)) n q) 1) ⌝ }
-{
-    let mut seen = [0u8; 1200];
-    let mut k = 0;
-    while k < n {
-        let q = fields::key(file, k);
-        if seen[q] != 0 {
-            return false;
-        }
-        seen[q] = 1;
-        k += 1;
-    }
-    true
-}
-
 // The bounds of question 5.
 fn lowest(kind: usize) -> i64
     ensures { λ r. ⌜ r ≡ cond (ltb kind 2) (pos 0) (negsuc (10 ^ 10 - 1)) ⌝ }
@@ -104,19 +84,12 @@ pub fn in_range(kind: usize, v: i64) -> bool
     false
 }
 
-// Question 5.
-pub fn values_ok(file: &[u8], n: usize) -> bool
-    requires { ⌜ 16 * n ≤ length (now file) ⌝ }
-    ensures { λ r. ⌜ r ≡ every n (ranged (now (file .entry))) ⌝ }
+// Question 5 of one record.
+pub fn value_ok(file: &[u8], k: usize) -> bool
+    requires { ⌜ 16 * k + 16 ≤ length (now file) ⌝ }
+    ensures { λ r. ⌜ r ≡ ranged (now (file .entry)) k ⌝ }
 {
-    let mut k = 0;
-    while k < n {
-        if !in_range(fields::byte(file, 16 * k), fields::value(file, k)) {
-            return false;
-        }
-        k += 1;
-    }
-    true
+    in_range(fields::byte(file, 16 * k), fields::value(file, k))
 }
 
 // Whether place p is a cell of a triangle of m years.

@@ -1,43 +1,90 @@
--- `by_key` meets its contract: each place so far has the sum of its key. Assumes nothing.
+-- `by_key` meets its contract: each flag says how often its key stood there so far, and each place has the sum of its key. Assumes nothing.
 use native.Mathlib.Omega.{arith}
+use native.Mathlib.Numerals.{add-one}
 use borrow.Author.Needs.{needs}
-use mathlib.Core.Path.{_≡_, _∙_}
+use borrow.Author.Tests.{le-leb, lt-leb}
+use mathlib.Core.Path.{_≡_, refl, sym, _∙_}
+use mathlib.Core.Bool.{Bool, _&&_, true≢false}
 use mathlib.Core.List.{List}
-use Prim.Native.Nat.{ℕ, _≤_, _<_, _-_}
+use Prim.Native.Nat.{ℕ, zero, suc, _+_, _≤_, _<_, _-_}
 use mir.Syntax.{w64}
 use mir.Val.{SFits}
 use mir.Facts.{toZ-ofZ}
 use denote.Ref.{now}
-use Rattle.triangles.proofs.Counting.{Cells, cells-none, cells-more}
+use Rattle.model.specs.Lists.{every}
+use Rattle.model.specs.ListsLaws.{every-none, every-no, every-all}
+use Rattle.triangles.specs.OneRecord.{ranged}
+use Rattle.triangles.specs.Keys.{keyCount}
+use Rattle.triangles.proofs.Counting.{Flags, flags-none, flags-more, count-at, Cells, cells-none, cells-more}
 use Rattle.triangles.proofs.cells.by_key.Statement.{statement}
 use Rattle.triangles.proofs.cells.by_key.Tie as tie
 
 abbrev Inv-loop : tie.InvT-loop
-Inv-loop file n out₀ k₀ out k = (k ≤ n) × Cells file k out
+Inv-loop file n values₀ seen₀ ranged₀ k₀ values seen good k = (k ≤ n) × Flags file k seen × Cells file k values × (good ≡ every k (ranged file))
 
 abbrev μ-loop : tie.MeasureT-loop
-μ-loop file n out₀ k₀ out k = n - k
+μ-loop file n values₀ seen₀ ranged₀ k₀ values seen good k = n - k
 
-abbrev file : tie.After-key Inv-loop μ-loop → List ℕ
-file c = now (c .before .before .before .before .args .file)
+module _ (c : tie.After-key Inv-loop μ-loop) where
+  abbrev start : tie.Start Inv-loop μ-loop
+  start = c .before .before .before .before
 
-below : (c : tie.After-key Inv-loop μ-loop) → c .key .result < 1200
-below c = rw (c .key .ensures) (c .before .before .before .before .pre .1 .0 (c .before .before .loop .k) (c .before .loop-test .taken) .1)
+  abbrev file : List ℕ
+  file = now (start .args .file)
+
+  abbrev k : ℕ
+  k = c .before .before .loop .k
+
+  abbrev q : ℕ
+  q = c .key .result
+
+  below : q < 1200
+  below = rw (c .key .ensures) (start .pre .1 .0 k (c .before .loop-test .taken) .1)
+
+above : (x y z : ℕ) → x ≡ y → (x ≡ 0 → ⊥) → y + 1 ≤ z → 1 < z
+above zero y z e n l = absurd (n refl)
+above (suc x) y z e n l = omega arith
+
+-- one answer more
+every-next : (p : ℕ → Bool) (k : ℕ) {a b : Bool} → a ≡ every k p → b ≡ p k → (a && b) ≡ every (k + 1) p
+unfolding every
+every-next p k e f = rw (add-one, e, f)
 
 loop-holds : tie.Need-loop-holds Inv-loop μ-loop
-loop-holds c = (search needs, cells-none _)
+loop-holds c = (search needs, flags-none _, rw (c .before .pre .1 .1) (cells-none _), sym (every-none _))
 
 key-requires : tie.Need-key-requires Inv-loop μ-loop
 key-requires c κs = (omega arith, c .before .before .before .pre .1 .0 (c .before .loop .k) (c .loop-test .taken) .0)
 
+array-read-if1 : tie.Need-array-read-if1 Inv-loop μ-loop
+array-read-if1 c = below c
+
+returns : tie.Need-returns Inv-loop μ-loop
+returns c =
+    let b = c .before in
+    let z : keyCount (file b) (k b) (q b) + 1 ≤ keyCount (file b) (start b .args .n) (q b) =
+    rw (← b .key .ensures) at (count-at (file b) (start b .args .n) (k b) (b .before .loop-test .taken)) in
+    let flag = b .before .before .loop .inv .1 .1 (q b) (below b) .0 in
+    record {
+      onceIs = sym (every-no _ 1200 (q b) (below b) (lt-leb _ 1 (above _ _ _ flag (c .if1 .taken) z)));
+      rangedIs = λ e. absurd (true≢false (sym e));
+      valuesAre = λ e. absurd (true≢false (sym e));
+    }
+
+array-write-seen : tie.Need-array-write-seen Inv-loop μ-loop
+array-write-seen c = below (c .before)
+
 value-requires : tie.Need-value-requires Inv-loop μ-loop
 value-requires c κs = omega arith
 
-mul-out : tie.Need-mul-out Inv-loop μ-loop
-mul-out c = omega (arith, below (c .before))
+mul-t15 : tie.Need-mul-t15 Inv-loop μ-loop
+mul-t15 c = omega (arith, below (c .before .before))
 
-array-set-from-out : tie.Need-array-set-from-out Inv-loop μ-loop
-array-set-from-out c = below (c .before)
+element-set-from-values : tie.Need-element-set-from-values Inv-loop μ-loop
+element-set-from-values c = below (c .before .before)
+
+value-ok-requires : tie.Need-value-ok-requires Inv-loop μ-loop
+value-ok-requires c κs = omega arith
 
 add-k : tie.Need-add-k Inv-loop μ-loop
 add-k c = omega arith
@@ -47,15 +94,27 @@ loop-less c = omega arith
 
 loop-again : tie.Need-loop-again Inv-loop μ-loop
 loop-again c =
-    let b = c .before in
+    let v = c .before in
+    let b = v .before .before in
     let l = b .before .before .loop in
-    let s : SFits w64 (c .value .result) = search needs in
-    (omega arith, cells-more (file b) _ (l .k) (b .key .result) _ (l .out) (b .before .before .before .before .pre .1 .1) (b .before .loop-test .taken) (b .key .ensures) (below b) (toZ-ofZ s ∙ c .value .ensures) (l .inv .1))
+    let s : SFits w64 (v .value .result) = search needs in
+    let flag = v .before .if1 .left in
+    let new = sym (l .inv .1 .1 (q b) (below b) .0) ∙ flag in (
+      omega arith,
+      flags-more (file b) (k b) (q b) (l .seen) (b .key .ensures) (below b) flag (l .inv .1),
+      cells-more (file b) (k b) (q b) _ (l .values) (b .key .ensures) (below b) new (toZ-ofZ s ∙ v .value .ensures) (l .inv .2),
+      every-next _ (k b) (l .inv .3) (c .value-ok .ensures),
+    )
 
-returns : tie.Need-returns Inv-loop μ-loop
-returns c =
+returns-2 : tie.Need-returns-2 Inv-loop μ-loop
+returns-2 c =
     let e : c .before .loop .k ≡ c .before .before .before .args .n = omega arith in
-    rw e at (c .before .loop .inv .1 .1)
+    let i = rw e at (c .before .loop .inv) in
+    record {
+      onceIs = sym (every-all _ 1200 (λ q h. le-leb _ 1 (i .1 .1 q h .1)));
+      rangedIs = λ _. i .3;
+      valuesAre = λ _. i .2 .1;
+    }
 
 pub by-key-spec : {M : Type 1} → statement M
 by-key-spec =
@@ -65,10 +124,14 @@ by-key-spec =
     μ-loop
     loop-holds
     key-requires
+    array-read-if1
+    returns
+    array-write-seen
     value-requires
-    mul-out
-    array-set-from-out
+    mul-t15
+    element-set-from-values
+    value-ok-requires
     add-k
     loop-less
     loop-again
-    returns)
+    returns-2)

@@ -6,5 +6,8 @@ fn main() {
     let folder = Path::new(&here).join("../../target/staticlib");
     println!("cargo:rustc-link-search=native={}", folder.display());
     println!("cargo:rustc-link-lib=static=probes");
-    println!("cargo:rerun-if-changed={}", folder.join("libprobes.a").display());
+    println!(
+        "cargo:rerun-if-changed={}",
+        folder.join("libprobes.a").display()
+    );
 }

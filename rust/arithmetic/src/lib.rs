@@ -73,7 +73,9 @@ pub mod plain {
 
     #[inline(never)]
     pub extern "C" fn round_div(a: i64, b: i64) -> i64 {
-        if a.unsigned_abs() > 9_000_000_000_000_000_000 || !(1..=1_000_000_000_000_000_000).contains(&b) {
+        if a.unsigned_abs() > 9_000_000_000_000_000_000
+            || !(1..=1_000_000_000_000_000_000).contains(&b)
+        {
             return OUTSIDE;
         }
         nearest(a as i128, b) as i64
@@ -81,7 +83,10 @@ pub mod plain {
 
     #[inline(never)]
     pub extern "C" fn share(g: i64, a: i64, b: i64) -> i64 {
-        if !(0..=4_000_000_000).contains(&g) || !(1..=1_100_000_000_000).contains(&b) || !(0..=b).contains(&a) {
+        if !(0..=4_000_000_000).contains(&g)
+            || !(1..=1_100_000_000_000).contains(&b)
+            || !(0..=b).contains(&a)
+        {
             return OUTSIDE;
         }
         nearest(g as i128 * a as i128, b) as i64
@@ -98,7 +103,11 @@ pub mod plain {
     #[inline(never)]
     pub extern "C" fn row_base(u: i64, w: i64, d: i64, cap: u64) -> i64 {
         const MOST: u64 = 210_000_000_000_000;
-        if u.unsigned_abs() > MOST || w.unsigned_abs() > MOST || !(1..=MOST as i64).contains(&d) || cap > MOST {
+        if u.unsigned_abs() > MOST
+            || w.unsigned_abs() > MOST
+            || !(1..=MOST as i64).contains(&d)
+            || cap > MOST
+        {
             return OUTSIDE;
         }
         let k = nearest(u as i128 * w as i128, d);

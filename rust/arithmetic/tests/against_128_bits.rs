@@ -38,14 +38,23 @@ fn round_div() {
     for _ in 0..ROUNDS {
         let a = n.signed(9_000_000_000_000_000_000);
         let b = 1 + n.edgy(999_999_999_999_999_999) as i64;
-        assert_eq!(proved::round_div(a, b) as i128, nearest(a as i128, b as i128), "{a} / {b}");
+        assert_eq!(
+            proved::round_div(a, b) as i128,
+            nearest(a as i128, b as i128),
+            "{a} / {b}"
+        );
         // an exact half, and its neighbours
         let half = 1 + n.edgy(499_999_999_999_999_999) as i64;
         let odd = 2 * (n.edgy(9_000_000_000_000_000_000 / half as u64 / 2 - 1) as i64 / 2) + 1;
         for near in [-1, 0, 1] {
             for sign in [-1, 1] {
                 let a = sign * (half * odd + near);
-                assert_eq!(proved::round_div(a, 2 * half) as i128, nearest(a as i128, 2 * half as i128), "{a} / {}", 2 * half);
+                assert_eq!(
+                    proved::round_div(a, 2 * half) as i128,
+                    nearest(a as i128, 2 * half as i128),
+                    "{a} / {}",
+                    2 * half
+                );
             }
         }
     }
@@ -70,7 +79,11 @@ fn ultimate() {
     for _ in 0..ROUNDS {
         let c = n.edgy(200_000_000_000) as i64;
         let g = 1_000_000 + n.edgy(3_999_000_000) as i64;
-        assert_eq!(proved::ultimate(c, g) as i128, nearest(c as i128 * SCALE as i128, g as i128), "{c} x S / {g}");
+        assert_eq!(
+            proved::ultimate(c, g) as i128,
+            nearest(c as i128 * SCALE as i128, g as i128),
+            "{c} x S / {g}"
+        );
     }
 }
 
@@ -85,10 +98,21 @@ fn row_base() {
         let exact = nearest(u as i128 * w as i128, d as i128);
         // caps of the callers, at random, and around the answer
         let around = exact.unsigned_abs().min(MOST as u128 - 1) as u64;
-        for cap in [4_000_000_000, 200_000_000_000_000, n.edgy(MOST), around, around + 1, around.max(1) - 1] {
+        for cap in [
+            4_000_000_000,
+            200_000_000_000_000,
+            n.edgy(MOST),
+            around,
+            around + 1,
+            around.max(1) - 1,
+        ] {
             let want = capped(exact, cap);
             too_large += (want == TOO_LARGE) as usize;
-            assert_eq!(proved::row_base(u, w, d, cap), want, "{u} x {w} / {d} up to {cap}");
+            assert_eq!(
+                proved::row_base(u, w, d, cap),
+                want,
+                "{u} x {w} / {d} up to {cap}"
+            );
         }
         // an exact half: u x w is odd times half of d
         let (u, w) = (u | 1, w | 1);
@@ -106,15 +130,26 @@ fn cell() {
     let square = SCALE as i128 * SCALE as i128;
     let mut n = Numbers(5772156649015329);
     for _ in 0..ROUNDS {
-        let (v, x) = (n.signed(200_000_000_000_000), n.signed(9_000_000_000_000_000_000));
-        assert_eq!(proved::cell(v, x) as i128, nearest(v as i128 * x as i128, square), "{v} x {x}");
+        let (v, x) = (
+            n.signed(200_000_000_000_000),
+            n.signed(9_000_000_000_000_000_000),
+        );
+        assert_eq!(
+            proved::cell(v, x) as i128,
+            nearest(v as i128 * x as i128, square),
+            "{v} x {x}"
+        );
         // an exact half: v x is an odd multiple of S² / 2
         let (s, t) = (n.below(14) as u32, 1 + 2 * n.below(99) as i64);
         let (v, x) = (t * 10i64.pow(s.min(11)), 5 * 10i64.pow(17 - s.min(11)));
         for sign in [-1, 1] {
             for near in [-1, 0, 1] {
                 let x = sign * x + near;
-                assert_eq!(proved::cell(v, x) as i128, nearest(v as i128 * x as i128, square), "{v} x {x}");
+                assert_eq!(
+                    proved::cell(v, x) as i128,
+                    nearest(v as i128 * x as i128, square),
+                    "{v} x {x}"
+                );
             }
         }
     }

@@ -3,6 +3,7 @@
 //! stay.
 
 mod difference;
+mod examples;
 mod files;
 mod memory;
 mod records;
@@ -11,6 +12,7 @@ mod tally;
 mod writer;
 
 pub use difference::Difference;
+pub use examples::examples;
 pub use records::records;
 
 use std::collections::BTreeMap;

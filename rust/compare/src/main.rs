@@ -1,7 +1,7 @@
-//! The long comparison: `compare COUNT [FIRST]` runs every comparison on the seeds FIRST (or 0) to
-//! FIRST + COUNT - 1.
+//! The long comparison: `compare COUNT [FIRST]` compares the examples of document 01, and runs every
+//! comparison on the seeds FIRST (or 0) to FIRST + COUNT - 1.
 
-use compare::COMPARISONS;
+use compare::{examples, COMPARISONS};
 use std::env;
 use std::process::ExitCode;
 
@@ -15,6 +15,13 @@ fn main() -> ExitCode {
             return ExitCode::FAILURE;
         }
     };
+    match examples() {
+        Ok(count) => println!("examples: {count} as document 01 prints them"),
+        Err(difference) => {
+            println!("examples: {difference}");
+            return ExitCode::FAILURE;
+        }
+    }
     for comparison in &COMPARISONS {
         match comparison.run(first..first.saturating_add(count)) {
             Ok(accepted) => println!(

@@ -1,8 +1,6 @@
 //! A refusal for each question, and their order.
 
-mod common;
-
-use common::{file_without_incurred, set, set_k};
+use reference::examples::{set, set_k, set_k_without_incurred};
 use reference::generate::file;
 use reference::*;
 
@@ -49,7 +47,7 @@ fn question_2() {
 #[test]
 fn question_3() {
     let good = file(&set_k());
-    let short = file_without_incurred(&set_k());
+    let short = file(&set_k_without_incurred());
     // The first record is a count of cell (1,0), the second of (1,1), the third of (2,0).
     let changes = [
         (0, 3),
@@ -134,7 +132,7 @@ fn questions_3_to_5_go_over_the_whole_file() {
 
 #[test]
 fn question_6() {
-    let (long, short) = (file(&set_k()), file_without_incurred(&set_k()));
+    let (long, short) = (file(&set_k()), file(&set_k_without_incurred()));
     for (method, basis) in [(3, 1), (0, 2), (256, 0), (u64::MAX, 0), (0, u64::MAX)] {
         assert_eq!(forecast(&long, 2, method, basis, 12), Err(6));
         assert_eq!(back_test(&long, 2, 1, method, basis), Err(6));

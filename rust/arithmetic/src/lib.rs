@@ -131,7 +131,7 @@ pub mod plain {
 pub struct Numbers(pub u64);
 
 impl Numbers {
-    pub fn next(&mut self) -> u64 {
+    pub fn number(&mut self) -> u64 {
         self.0 ^= self.0 << 13;
         self.0 ^= self.0 >> 7;
         self.0 ^= self.0 << 17;
@@ -140,19 +140,19 @@ impl Numbers {
 
     /// From 0 to most, evenly.
     pub fn below(&mut self, most: u64) -> u64 {
-        self.next() % (most + 1)
+        self.number() % (most + 1)
     }
 
     /// From 0 to most, of every size, and often an end of the range.
     pub fn edgy(&mut self, most: u64) -> u64 {
-        match self.next() % 16 {
+        match self.number() % 16 {
             0 => most,
             1 => most - 1,
             2 => 0,
             3 => 1.min(most),
             _ => {
-                let cut = self.next() % 64;
-                (self.next() >> cut) % (most + 1)
+                let cut = self.number() % 64;
+                (self.number() >> cut) % (most + 1)
             }
         }
     }
@@ -160,7 +160,7 @@ impl Numbers {
     /// As `edgy`, with either sign.
     pub fn signed(&mut self, most: u64) -> i64 {
         let size = self.edgy(most) as i64;
-        if self.next() & 1 == 0 {
+        if self.number() & 1 == 0 {
             size
         } else {
             -size

@@ -27,7 +27,7 @@ fn answer(example: &Example) -> Answer {
         Call::Shares => {
             let [mut b, mut n, mut q, mut g, mut u] = [[0; 20]; 5];
             let refusal = calls::shares(&file, m, &mut b, &mut n, &mut q, &mut g, &mut u);
-            (refusal, Answer::Shares(Shares { b, n, q, g, u }))
+            (refusal, Answer::Shares(Box::new(Shares { b, n, q, g, u })))
         }
         Call::Delays => {
             let mut p = [0; 20];

@@ -90,7 +90,7 @@ pub struct Example {
 /// The answer to a call.
 #[derive(Debug)]
 pub enum Answer {
-    Shares(Shares),
+    Shares(Box<Shares>),
     Delays([i64; 20]),
     Forecast(Forecast),
     BackTest(BackTest),
@@ -283,7 +283,7 @@ impl Example {
     pub fn calculated(&self) -> Answer {
         let (m, file) = self.file();
         let answer = match self.call {
-            Call::Shares => shares(&file, m).map(Answer::Shares),
+            Call::Shares => shares(&file, m).map(|of| Answer::Shares(Box::new(of))),
             Call::Delays => delays(&file, m).map(Answer::Delays),
             Call::Forecast { method, basis } => {
                 let room = entry_count(m as usize);

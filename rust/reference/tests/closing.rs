@@ -1,6 +1,6 @@
 //! The tally, and what `closing` prints.
 
-use reference::examples::{set, set_k, set_k_without_incurred};
+use reference::examples::{set, set_k_without_incurred};
 use reference::generate::{case, closing_input, file};
 use reference::*;
 

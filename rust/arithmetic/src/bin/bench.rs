@@ -53,7 +53,7 @@ fn main() {
                 n.below(most) as i64,
                 n.below(8_000_000_000_000_000_000) as i64,
             );
-            let sign = if n.next() % 100 < signs { -1 } else { 1 };
+            let sign = if n.number() % 100 < signs { -1 } else { 1 };
             (v, sign * x)
         })
     };

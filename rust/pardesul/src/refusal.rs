@@ -11,8 +11,9 @@ use std::fmt;
 /// let refusal = TriangleSet::read(&[], 2).unwrap_err();
 /// assert_eq!(refusal.number(), 2);
 /// assert_eq!(refusal.to_string(), "refused 2: the length is not that of a set");
+/// assert_eq!(format!("{refusal:?}"), refusal.to_string());
 /// ```
-#[derive(Clone, Copy, Debug, PartialEq, Eq, Hash)]
+#[derive(Clone, Copy, PartialEq, Eq, Hash)]
 pub struct Refusal(u64);
 
 impl Refusal {
@@ -54,6 +55,13 @@ impl Refusal {
 impl fmt::Display for Refusal {
     fn fmt(&self, f: &mut fmt::Formatter) -> fmt::Result {
         write!(f, "refused {}: {}", self.number(), self.message())
+    }
+}
+
+/// The same words, which a program prints whose main function ends with the refusal.
+impl fmt::Debug for Refusal {
+    fn fmt(&self, f: &mut fmt::Formatter) -> fmt::Result {
+        fmt::Display::fmt(self, f)
     }
 }
 

@@ -64,3 +64,13 @@ impl Comparison {
         Ok(accepted)
     }
 }
+
+/// Compares `respond` on any input; the seed chooses the memory that is lent.
+pub fn respond(seed: u64, input: &[u8]) -> Result<(), Difference> {
+    respond::compare(seed, input, &mut Accepted::new()).map(|_| ())
+}
+
+/// Compares `read_set` on any file and m.
+pub fn read_set(seed: u64, file: &[u8], m: u64) -> Result<(), Difference> {
+    files::read_set(seed, file, m).map(|_| ())
+}

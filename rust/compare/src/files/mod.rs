@@ -7,6 +7,8 @@ mod forecast;
 mod reader;
 mod shares;
 
+pub use reader::compare_file as read_set;
+
 use crate::difference::{hexadecimal, Difference};
 use crate::Accepted;
 use reference::generate::{any_set, case, shuffled_file, Case, Random};

@@ -1,4 +1,5 @@
 //! Links libFuzzer, which comes with clang.
+use std::path::Path;
 use std::process::Command;
 
 fn main() {
@@ -7,7 +8,12 @@ fn main() {
         .output()
         .expect("clang is there");
     let library = String::from_utf8(clang.stdout).unwrap();
-    println!("cargo:rustc-link-arg-bins={}", library.trim());
+    let library = library.trim();
+    assert!(
+        Path::new(library).exists(),
+        "clang has no libFuzzer: Debian's package is libclang-rt-14-dev"
+    );
+    println!("cargo:rustc-link-arg-bins={library}");
     println!("cargo:rustc-link-arg-bins=-lstdc++");
     println!("cargo:rerun-if-changed=build.rs");
 }

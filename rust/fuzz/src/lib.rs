@@ -11,6 +11,7 @@ pub use mutate::mutate;
 
 use compare::Difference;
 use guarded::Guarded;
+use reference::examples::EXAMPLES;
 use reference::generate::Random;
 
 /// The longest input: a first line and some bytes more than any set has.
@@ -25,6 +26,11 @@ pub struct Target {
     /// How many bytes of an input are its head.
     pub head: fn(&[u8]) -> usize,
     pub any_head: fn(&mut Random) -> Vec<u8>,
+}
+
+/// The number of years and the file of an example of document 01.
+pub fn any_example(random: &mut Random) -> (u64, Vec<u8>) {
+    EXAMPLES[random.below(EXAMPLES.len())].file()
 }
 
 /// Compares the answer to one input, which lies at an end of memory that can be read; panics where

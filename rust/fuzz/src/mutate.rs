@@ -80,15 +80,17 @@ fn change_record(random: &mut Random, records: &mut [[u8; 16]]) {
 /// A value of the kind made from the one that stands there.
 fn any_value(random: &mut Random, kind: u8, value: i64) -> i64 {
     let (low, high) = (*range(kind).start(), *range(kind).end());
-    match random.below(9) {
+    match random.below(12) {
         0 => 0,
         1 => random.of_digits(10),
-        2 => random.pick(&[low, high]),
-        3 => random.pick(&[low - 1, low + 1, high - 1, high + 1]),
-        4 => value.wrapping_neg(),
-        5 => value.wrapping_mul(random.pick(&[2, 10, 1_000])),
-        6 => value / random.pick(&[2, 10, 1_000]),
-        7 => value.wrapping_add(random.between(-3, 3)),
+        // Round numbers, by which an edge is met exactly.
+        2..=4 => random.between(1, 100) * 10i64.pow(random.between(0, 8) as u32),
+        5 => random.pick(&[low, high]),
+        6 => random.pick(&[low - 1, low + 1, high - 1, high + 1]),
+        7 => value.wrapping_neg(),
+        8 => value.wrapping_mul(random.pick(&[2, 3, 10, 1_000])),
+        9 => value / random.pick(&[2, 3, 10, 1_000]),
+        10 => value.wrapping_add(random.between(-3, 3)),
         _ => value.wrapping_add(value / 100 * random.between(-100, 100)),
     }
 }

@@ -2,15 +2,12 @@
 #![no_main]
 
 use compare::Difference;
-use fuzz::{fuzz, Target};
+use fuzz::{any_example, fuzz, Target};
 use reference::generate::{case, Random};
 
 const READ_SET: Target = Target {
     compare,
-    generate: |seed| {
-        let case = case(seed);
-        [&case.m.to_le_bytes()[..], &case.file].concat()
-    },
+    generate,
     head: |input| input.len().min(8),
     any_head: |random| any_m(random).to_le_bytes().to_vec(),
 };
@@ -22,6 +19,17 @@ fn compare(seed: u64, input: &[u8]) -> Result<(), Difference> {
     let mut m = [0; 8];
     m[..head.len()].copy_from_slice(head);
     compare::read_set(seed, file, u64::from_le_bytes(m))
+}
+
+fn generate(seed: u64) -> Vec<u8> {
+    let mut random = Random::new(seed);
+    let (m, file) = if random.one_in(8) {
+        any_example(&mut random)
+    } else {
+        let case = case(seed);
+        (case.m, case.file)
+    };
+    [&m.to_le_bytes()[..], &file].concat()
 }
 
 fn any_m(random: &mut Random) -> u64 {

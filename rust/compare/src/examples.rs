@@ -1,11 +1,12 @@
-//! The examples of document 01: what the document prints, and every call on the example's file.
+//! The examples of document 01, and sets at the edges of its questions: what the document prints, and
+//! every call on the file.
 
-use crate::difference::Difference;
+use crate::difference::{same, Difference};
 use crate::{files, respond, Accepted};
 use pardesul::calls;
-use reference::examples::{Answer, Call, Example, EXAMPLES};
+use reference::examples::{Answer, Call, Example, EDGES, EXAMPLES};
 use reference::forecast::entry_count;
-use reference::generate::Case;
+use reference::generate::{file, Case};
 use reference::{BackTest, Forecast, Shares};
 
 /// Compares every example, and says how many there are.
@@ -14,9 +15,31 @@ pub fn examples() -> Result<usize, Difference> {
         example
             .check(&answer(example))
             .map_err(|what| Difference::new(what, example.says.to_string()))?;
-        in_lent_memory(seed, example)?;
+        let (m, file) = example.file();
+        let (method, basis, cut) = match example.call {
+            Call::Forecast { method, basis } => (method, basis, 1),
+            Call::BackTest { method, basis, cut } => (method, basis, cut),
+            _ => (0, 1, 1),
+        };
+        in_lent_memory(seed, case(m, file, method, basis, cut))?;
     }
     Ok(EXAMPLES.len())
+}
+
+/// Compares every method on every edge, and says how many edges there are.
+pub fn edges() -> Result<usize, Difference> {
+    for (seed, edge) in (0..).zip(EDGES) {
+        let set = edge.rows.set();
+        for (method, refused) in (0..).zip(edge.refused) {
+            let (mut out, mut leftovers) = (vec![0; entry_count(set.m)], [0; 20]);
+            let refusal = calls::forecast(&file(&set), set.m, method, 0, &mut out, &mut leftovers);
+            same("edge, refusal", refusal, refused, || {
+                format!("method {method}, edge {seed}")
+            })?;
+            in_lent_memory(seed, case(set.m as u64, file(&set), method, 0, 1))?;
+        }
+    }
+    Ok(EDGES.len())
 }
 
 /// The library's answer.
@@ -61,24 +84,21 @@ fn answer(example: &Example) -> Answer {
     }
 }
 
-/// Every call on the example's file against the reference, its lent memory included: a refusal leaves
-/// all of it.
-fn in_lent_memory(seed: u64, example: &Example) -> Result<(), Difference> {
-    let (m, file) = example.file();
-    let (method, basis, cut) = match example.call {
-        Call::Forecast { method, basis } => (method, basis, 1),
-        Call::BackTest { method, basis, cut } => (method, basis, cut),
-        _ => (0, 1, 1),
-    };
-    let input = [format!("{m} {method} {basis}\n").as_bytes(), &file].concat();
-    respond::compare(seed, &input, &mut Accepted::new())?;
-    let case = Case {
+fn case(m: u64, file: Vec<u8>, method: u64, basis: u64, cut: u64) -> Case {
+    Case {
         m,
         file,
         method,
         basis,
         out_len: entry_count(m as usize) + 1,
         cut,
-    };
+    }
+}
+
+/// Every call on a case against the reference, its lent memory included: a refusal leaves all of it.
+fn in_lent_memory(seed: u64, case: Case) -> Result<(), Difference> {
+    let line = format!("{} {} {}\n", case.m, case.method, case.basis);
+    let input = [line.as_bytes(), &case.file].concat();
+    respond::compare(seed, &input, &mut Accepted::new())?;
     files::compare(seed, &case, &mut Accepted::new())
 }

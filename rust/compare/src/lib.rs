@@ -12,7 +12,7 @@ mod tally;
 mod writer;
 
 pub use difference::Difference;
-pub use examples::examples;
+pub use examples::{edges, examples};
 pub use records::records;
 
 use std::collections::BTreeMap;

@@ -32,11 +32,13 @@ pub fn set_k_without_incurred() -> Set {
     K_WITHOUT_INCURRED.set()
 }
 
+type Triangle = &'static [&'static [i64]];
+
 /// The triangles of an example.
 pub struct Rows {
-    counts: &'static [&'static [i64]],
-    paid: &'static [&'static [i64]],
-    incurred: Option<&'static [&'static [i64]]>,
+    counts: Triangle,
+    paid: Triangle,
+    incurred: Option<Triangle>,
 }
 
 impl Rows {
@@ -270,6 +272,110 @@ pub const EXAMPLES: &[Example] = &[
         },
         printed: Printed::Numbers(&[(Cells, 1), (ByCell, 10), (ByYear, 10), (InAll, 10)]),
     },
+];
+
+/// A set at an edge of questions 12 to 14, and the refusals of methods 0 to 2 with actual counts, 0
+/// where it is accepted.
+pub struct Edge {
+    pub rows: Rows,
+    pub refused: [Refusal; 3],
+}
+
+const fn edge(counts: Triangle, paid: Triangle, incurred: Triangle, refused: [u64; 3]) -> Edge {
+    let rows = Rows {
+        counts,
+        paid,
+        incurred: Some(incurred),
+    };
+    Edge { rows, refused }
+}
+
+/// Set K with another incurred triangle.
+const fn incurred(incurred: Triangle, refused: [u64; 3]) -> Edge {
+    edge(K.counts, K.paid, incurred, refused)
+}
+
+const ONE_COUNT: Triangle = &[&[1, 0], &[1]];
+
+/// The largest incurred reserve of a year with U = 200001 and R = 1 under IDCL.
+const RESERVE: i64 = 200_000_000_000_000 / 200_001;
+
+/// Edges that are met exactly, and the same a unit past them.
+pub const EDGES: &[Edge] = &[
+    // p(1) = -8 × 10^9.
+    edge(WIDEST.counts, WIDEST.paid, WIDEST.paid, [0, 0, 0]),
+    edge(WIDER.counts, WIDER.paid, WIDER.paid, [12, 12, 12]),
+    // p(1) = 8 × 10^9.
+    edge(
+        &[&[1, 9], &[1]],
+        &[&[200, 9_800], &[1]],
+        &[&[1, 0], &[1]],
+        [0, 0, 0],
+    ),
+    edge(
+        &[&[1, 9], &[1]],
+        &[&[199, 9_801], &[1]],
+        &[&[1, 0], &[1]],
+        [12, 12, 12],
+    ),
+    // A(1), B(1) and the latest row sums of incurred.
+    incurred(&[&[0, 100], &[5]], [0, 13, 13]),
+    incurred(&[&[-1, 100], &[5]], [0, 13, 13]),
+    incurred(&[&[100, -100], &[5]], [0, 13, 13]),
+    incurred(&[&[100, -101], &[5]], [0, 13, 13]),
+    incurred(&[&[100, 0], &[-1]], [0, 13, 13]),
+    incurred(&[&[100, 0], &[0]], [0, 0, 0]),
+    // g(0) of incurred, from 10^6 to 4 × 10^9.
+    incurred(&[&[1, 1000], &[1]], [0, 13, 13]),
+    incurred(&[&[1, 999], &[1]], [0, 0, 0]),
+    incurred(&[&[4001, -3001], &[1000]], [0, 13, 13]),
+    incurred(&[&[4000, -3000], &[1000]], [0, 0, 0]),
+    // BDCL: V(2) = 10^6 × W(2) / 10.
+    edge(
+        ONE_COUNT,
+        &[&[1_000_000, 0], &[1]],
+        &[&[10, 0], &[2_000_000_000]],
+        [0, 0, 0],
+    ),
+    edge(
+        ONE_COUNT,
+        &[&[1_000_000, 0], &[1]],
+        &[&[10, 0], &[2_000_000_001]],
+        [0, 14, 0],
+    ),
+    // IDCL: V(2) = 200001 × R*.
+    edge(
+        ONE_COUNT,
+        &[&[200_000, 1], &[200_000]],
+        &[&[1_000_000_000, 0], &[200_000 + RESERVE]],
+        [0, 0, 0],
+    ),
+    edge(
+        ONE_COUNT,
+        &[&[200_000, 1], &[200_000]],
+        &[&[1_000_000_000, 0], &[200_001 + RESERVE]],
+        [0, 0, 14],
+    ),
+    // IDCL: V(2) = 200000 × R*, with R = 1 and R* = 10^9: 2 × 10^14.
+    edge(
+        ONE_COUNT,
+        &[&[199_999, 1], &[199_999]],
+        &[&[1_000_000_000, 0], &[1_000_199_999]],
+        [0, 0, 0],
+    ),
+    // IDCL: V(2) = -paid × (paid + 1).
+    edge(
+        ONE_COUNT,
+        &[&[14_142_135, 1], &[14_142_135]],
+        &[&[1_000_000_000, 0], &[0]],
+        [0, 0, 0],
+    ),
+    edge(
+        ONE_COUNT,
+        &[&[14_142_136, 1], &[14_142_136]],
+        &[&[1_000_000_000, 0], &[0]],
+        [0, 0, 14],
+    ),
 ];
 
 impl Example {

@@ -16,8 +16,12 @@
  *   10  a paid B(j) is zero
  *   11  g(0) of counts or of paid is below 10^6
  *   12  a delay is outside -8 x 10^9 to 8 x 10^9
- *   13  (methods 1, 2) an incurred sum is zero or negative, or an incurred g(j) is outside 10^6 to 4 x 10^9
+ *   13  (methods 1, 2) an incurred A(j) or B(j) is not above zero, a latest incurred row sum is negative, or an incurred g(j) is outside 10^6 to
+ *       4 x 10^9
  *   14  (methods 1, 2) a row base is outside -2 x 10^14 to 2 x 10^14
+ *
+ * C(i,j) is the sum of row i up to delay j; A(j) sums C(i,j-1) and B(j) sums C(i,j), both over rows 1 to m - j; g(j) is the share of a row, in
+ * billionths, that is there up to delay j, estimated from them.
  *
  * A set has m accident years, i from 1 to m, and cells (i,j) with delays j from 0 to m - i. A triangle is 400 numbers, cell (i,j) at
  * PARDESUL_PLACE(i, j). A file has a record of 16 bytes for each cell of counts and paid, or of all three, in any order: byte 0 the kind

@@ -45,7 +45,7 @@ impl Refusal {
             10 => "a paid B(j) is zero",
             11 => "g(0) of counts or of paid is below 10^6",
             12 => "a delay is outside -8 × 10^9 to 8 × 10^9",
-            13 => "an incurred sum is zero or negative, or an incurred g(j) is outside 10^6 to 4 × 10^9",
+            13 => "an incurred A(j) or B(j) is not above zero, a latest incurred row sum is negative, or an incurred g(j) is outside 10^6 to 4 × 10^9",
             14 => "a row base is outside -2 × 10^14 to 2 × 10^14",
             _ => "no question has this number",
         }

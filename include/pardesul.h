@@ -16,14 +16,21 @@
  *   10  a paid B(j) is zero
  *   11  g(0) of counts or of paid is below 10^6
  *   12  a delay is outside -8 x 10^9 to 8 x 10^9
- *   13  (methods 1, 2) an incurred sum is zero or negative, or an incurred g(j) is outside 10^6 to 4 x 10^9
+ *   13  (methods 1, 2) an incurred A(j) or B(j) is not above zero, a latest incurred row sum is negative, or an incurred g(j) is outside 10^6 to
+ *       4 x 10^9
  *   14  (methods 1, 2) a row base is outside -2 x 10^14 to 2 x 10^14
+ *
+ * C(i,j) is the sum of row i up to delay j; A(j) sums C(i,j-1) and B(j) sums C(i,j), both over rows 1 to m - j; g(j) is the share of a row, in
+ * billionths, that is there up to delay j, estimated from them.
  *
  * A set has m accident years, i from 1 to m, and cells (i,j) with delays j from 0 to m - i. A triangle is 400 numbers, cell (i,j) at
  * PARDESUL_PLACE(i, j). A file has a record of 16 bytes for each cell of counts and paid, or of all three, in any order: byte 0 the kind
  * (0 count, 1 paid, 2 incurred), byte 1 i, byte 2 j, bytes 3 to 7 zero, bytes 8 to 15 the value, two's complement, least byte first.
  *
- * Pointers are not null, and the memory lent to one call does not overlap. A pointer to no bytes at all is given with the length 0. */
+ * Pointers are not null, and the memory lent to one call does not overlap. A pointer to no bytes at all is given with the length 0. A call keeps
+ * nothing for the next one, so calls may run at the same time in several threads.
+ *
+ * A program is compiled with `cc -I include program.c target/staticlib/libc_api.a`; nothing else has to be linked. */
 #ifndef PARDESUL_H
 #define PARDESUL_H
 
@@ -65,8 +72,8 @@ extern "C" {
 uint64_t pardesul_read_set(const uint8_t *file, size_t file_length, size_t m, uint8_t *three, int64_t *counts, int64_t *paid, int64_t *incurred);
 
 /* Writes a set's file, PARDESUL_FILE_LENGTH(m, three) bytes, to the front of out, which has out_length bytes; those past the file stay. counts, paid
- * and incurred have 400 places each, of which only the set's cells are looked at: of incurred none where three is false. The order of the
- * records is the library's own. Refuses with 1, 5 and 7. */
+ * and incurred have 400 places each, of which only the set's cells are looked at: of incurred none where three is false, but it is lent then too.
+ * The order of the records is the library's own. Refuses with 1, 5 and 7. */
 uint64_t pardesul_write_set(size_t m, bool three, const int64_t *counts, const int64_t *paid, const int64_t *incurred, uint8_t *out, size_t out_length);
 
 /* The chain ladder of counts and paid, in lists of 20 places: b shares of counts and n ultimate counts; q shares of payments, g the same up to each
@@ -81,8 +88,10 @@ uint64_t pardesul_delays(const uint8_t *file, size_t file_length, size_t m, int6
  * PARDESUL_NO_PAYMENTS_YET. Refuses with 1 to 5 and 9 to 11. */
 uint64_t pardesul_claim_costs(const uint8_t *file, size_t file_length, size_t m, double *mu, double *factors, uint8_t *kinds, double *ratios);
 
-/* The forecast: PARDESUL_ENTRIES(m) entries at the front of out, which has out_length places; those past them stay. The left over of year i goes to
- * place i - 1 of leftovers, which has 20. method: 0 DCL, 1 BDCL, 2 IDCL; basis: 0 actual, 1 estimated counts. Refuses with 1 to 7 and 9 to 14. */
+/* The forecast: PARDESUL_ENTRIES(m) entries at the front of out, which has out_length places; those past them stay. A cell has an entry for RBNS
+ * (reported but not settled) and one for IBNR (incurred but not reported), both 0 where i + j <= m: that is known. The left over of year i goes to
+ * place i - 1 of leftovers, which has 20: under IDCL the incurred reserve of a year whose paid reserve is 0, else 0. method: 0 DCL, 1 BDCL, 2 IDCL;
+ * basis: 0 actual, 1 estimated counts. Refuses with 1 to 7 and 9 to 14. */
 uint64_t pardesul_forecast(const uint8_t *file, size_t file_length, size_t m, uint64_t method, uint64_t basis, int64_t *out, size_t out_length,
                            int64_t *leftovers);
 
@@ -92,8 +101,8 @@ uint64_t pardesul_forecast(const uint8_t *file, size_t file_length, size_t m, ui
 uint64_t pardesul_back_test(const uint8_t *file, size_t file_length, size_t m, uint64_t method, uint64_t basis, size_t c, uint64_t *cells,
                             uint64_t *cellwise, uint64_t *yearwise, uint64_t *overall);
 
-/* Adds a cell to the sums of calendar year `year`, reported to rbns and unreported to ibnr, 38 places each. For a year outside 1 to 38, or where a sum
- * would leave the signed 64-bit numbers, both stay as they are. */
+/* Adds a cell to the sums of calendar year `year`, reported to rbns and unreported to ibnr, 38 places each. The year of cell (i,j) of a forecast is
+ * i + j - m, 1 to 2m - 2. For a year outside 1 to 38, or where a sum would leave the signed 64-bit numbers, both stay as they are. */
 void pardesul_tally_add(int64_t *rbns, int64_t *ibnr, uint64_t year, int64_t reported, int64_t unreported);
 
 /* The text that `closing` prints: input is its whole standard input, a line "m method basis" and then the file. The text goes to the front of out,

@@ -9,6 +9,12 @@ pub struct Difference {
     case: String,
 }
 
+impl Difference {
+    pub fn new(what: String, case: String) -> Difference {
+        Difference { what, case }
+    }
+}
+
 impl fmt::Display for Difference {
     fn fmt(&self, f: &mut fmt::Formatter) -> fmt::Result {
         write!(f, "{}\n{}", self.what, self.case)
@@ -48,4 +54,9 @@ pub fn same_list<T: PartialEq + fmt::Debug>(
         ),
         None => Ok(()),
     }
+}
+
+/// Bytes in hexadecimal.
+pub fn hexadecimal(bytes: &[u8]) -> String {
+    bytes.iter().map(|byte| format!("{byte:02x}")).collect()
 }

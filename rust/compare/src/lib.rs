@@ -3,6 +3,7 @@
 //! stay.
 
 mod difference;
+mod examples;
 mod files;
 mod memory;
 mod respond;
@@ -10,6 +11,7 @@ mod tally;
 mod writer;
 
 pub use difference::Difference;
+pub use examples::{edges, examples};
 
 use std::collections::BTreeMap;
 
@@ -59,4 +61,14 @@ impl Comparison {
         }
         Ok(accepted)
     }
+}
+
+/// Compares `respond` on any input; the seed chooses the memory that is lent.
+pub fn respond(seed: u64, input: &[u8]) -> Result<(), Difference> {
+    respond::compare(seed, input, &mut Accepted::new()).map(|_| ())
+}
+
+/// Compares `read_set` on any file and m.
+pub fn read_set(seed: u64, file: &[u8], m: u64) -> Result<(), Difference> {
+    files::read_set(seed, file, m).map(|_| ())
 }

@@ -1,7 +1,7 @@
-//! The long comparison: `compare COUNT [FIRST]` runs every comparison on the seeds FIRST (or 0) to
-//! FIRST + COUNT - 1.
+//! The long comparison: `compare COUNT [FIRST]` compares the examples of document 01, and runs every
+//! comparison on the seeds FIRST (or 0) to FIRST + COUNT - 1.
 
-use compare::COMPARISONS;
+use compare::{edges, examples, COMPARISONS};
 use std::env;
 use std::process::ExitCode;
 
@@ -15,6 +15,15 @@ fn main() -> ExitCode {
             return ExitCode::FAILURE;
         }
     };
+    match examples().and_then(|count| Ok((count, edges()?))) {
+        Ok((count, edges)) => {
+            println!("examples: {count} as document 01 prints them, {edges} edges")
+        }
+        Err(difference) => {
+            println!("examples: {difference}");
+            return ExitCode::FAILURE;
+        }
+    }
     for comparison in &COMPARISONS {
         match comparison.run(first..first.saturating_add(count)) {
             Ok(accepted) => println!(

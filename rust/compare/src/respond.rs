@@ -1,6 +1,6 @@
 //! The answer of `closing` to its whole input.
 
-use crate::difference::{same, same_list, Difference};
+use crate::difference::{hexadecimal, same, same_list, Difference};
 use crate::memory::Memory;
 use crate::Accepted;
 use pardesul::calls;
@@ -75,7 +75,7 @@ pub fn of_damaged(seed: u64, accepted: &mut Accepted) -> Result<(), Difference> 
 }
 
 /// The whole text, or nothing where the output is too short for it; says the refusal number.
-fn compare(seed: u64, input: &[u8], accepted: &mut Accepted) -> Result<usize, Difference> {
+pub fn compare(seed: u64, input: &[u8], accepted: &mut Accepted) -> Result<usize, Difference> {
     let text = || arguments(seed, input);
     let wanted = closing(input);
     let room = any_room(&mut Random::new(seed ^ (1 << 42)), wanted.len());
@@ -119,6 +119,5 @@ fn any_room(random: &mut Random, needed: usize) -> usize {
 
 /// The arguments; the input in hexadecimal.
 fn arguments(seed: u64, input: &[u8]) -> String {
-    let input: String = input.iter().map(|byte| format!("{byte:02x}")).collect();
-    format!("seed {seed}, input {input}")
+    format!("seed {seed}, input {}", hexadecimal(input))
 }

@@ -39,7 +39,11 @@
 //! # Ok::<(), pardesul::Refusal>(())
 //! ```
 //!
-//! [`calls`] has the calls themselves, over memory that the caller lends.
+//! The other calls are [`shares`], [`delays`], [`claim_costs`], [`back_test`], [`Tally::add`] and
+//! [`respond`], the text of the program `closing`. [`calls`] has the calls themselves, over memory that
+//! the caller lends.
+//!
+//! The crate links `target/staticlib/libc_api.a` of its repository, which `rt staticlib c_api` writes.
 
 mod back_test;
 pub mod calls;

@@ -11,8 +11,9 @@ use std::fmt;
 /// let refusal = TriangleSet::read(&[], 2).unwrap_err();
 /// assert_eq!(refusal.number(), 2);
 /// assert_eq!(refusal.to_string(), "refused 2: the length is not that of a set");
+/// assert_eq!(format!("{refusal:?}"), refusal.to_string());
 /// ```
-#[derive(Clone, Copy, Debug, PartialEq, Eq, Hash)]
+#[derive(Clone, Copy, PartialEq, Eq, Hash)]
 pub struct Refusal(u64);
 
 impl Refusal {
@@ -44,7 +45,7 @@ impl Refusal {
             10 => "a paid B(j) is zero",
             11 => "g(0) of counts or of paid is below 10^6",
             12 => "a delay is outside -8 × 10^9 to 8 × 10^9",
-            13 => "an incurred sum is zero or negative, or an incurred g(j) is outside 10^6 to 4 × 10^9",
+            13 => "an incurred A(j) or B(j) is not above zero, a latest incurred row sum is negative, or an incurred g(j) is outside 10^6 to 4 × 10^9",
             14 => "a row base is outside -2 × 10^14 to 2 × 10^14",
             _ => "no question has this number",
         }
@@ -54,6 +55,13 @@ impl Refusal {
 impl fmt::Display for Refusal {
     fn fmt(&self, f: &mut fmt::Formatter) -> fmt::Result {
         write!(f, "refused {}: {}", self.number(), self.message())
+    }
+}
+
+/// The same words, which a program prints whose main function ends with the refusal.
+impl fmt::Debug for Refusal {
+    fn fmt(&self, f: &mut fmt::Formatter) -> fmt::Result {
+        fmt::Display::fmt(self, f)
     }
 }
 

@@ -7,6 +7,7 @@ pub mod big;
 pub mod calendar;
 pub mod claim_costs;
 pub mod delays;
+pub mod examples;
 pub mod forecast;
 pub mod fraction;
 pub mod generate;

@@ -1,8 +1,6 @@
 //! The tally, and what `closing` prints.
 
-mod common;
-
-use common::{file_without_incurred, set, set_k};
+use reference::examples::{set, set_k_without_incurred};
 use reference::generate::{case, closing_input, file};
 use reference::*;
 
@@ -33,7 +31,7 @@ fn tally_stays_the_same() {
 
 #[test]
 fn first_lines() {
-    let file = file_without_incurred(&set_k());
+    let file = file(&set_k_without_incurred());
     let good = text(b"2 0 1\n", &file);
     assert!(good.starts_with("1 338 165 503\n"));
     assert_eq!(text(b"0002 0000 001\n", &file), good);

@@ -1,8 +1,6 @@
-//! Every example of document 01, and the values of set K that follow from its formulas by hand.
+//! Every example of document 01, and values that follow from its formulas by hand.
 
-mod common;
-
-use common::{file_without_incurred, set, set_k};
+use reference::examples::{set, set_k, EXAMPLES};
 use reference::forecast::entry;
 use reference::generate::file;
 use reference::*;
@@ -21,40 +19,21 @@ fn cell(forecast: &Forecast, m: usize, i: usize, j: usize) -> (i64, i64) {
 }
 
 #[test]
-fn shares_and_ultimates_of_k() {
-    let shares = shares(&file(&set_k()), 2).unwrap();
-    assert_eq!(shares.b, list(&[800_000_000, 200_000_000]));
-    assert_eq!(shares.q, list(&[600_000_000, 400_000_000]));
-    assert_eq!(shares.g, list(&[600_000_000, 1_000_000_000]));
-    assert_eq!(shares.u, list(&[1000, 1100]));
-    assert_eq!(shares.n, list(&[100, 113]));
+fn printed_examples() {
+    for example in EXAMPLES {
+        assert_eq!(example.check(&example.calculated()), Ok(()));
+    }
 }
 
+/// All entries of K, and no left overs: year 1 has R = 0 and keeps its tail under IDCL too.
 #[test]
-fn delays_of_k() {
-    let delays = delays(&file(&set_k()), 2).unwrap();
-    assert_eq!(delays, list(&[750_000_000, 312_500_000]));
-}
-
-#[test]
-fn plain_dcl_of_k() {
-    let forecast = forecast(&file(&set_k()), 2, 0, 1, 12).unwrap();
-    assert_eq!(cell(&forecast, 2, 2, 1), (275, 165));
-    assert_eq!(cell(&forecast, 2, 2, 2), (0, 69));
-    assert_eq!(cell(&forecast, 2, 1, 2), (63, 0));
-    assert_eq!(forecast.entries, [0, 0, 0, 0, 63, 0, 0, 0, 275, 165, 0, 69]);
-    assert_eq!(forecast.leftovers, [0; 20]);
-}
-
-#[test]
-fn bdcl_and_idcl_of_k() {
-    let bdcl = forecast(&file(&set_k()), 2, 1, 1, 12).unwrap();
-    assert_eq!(cell(&bdcl, 2, 2, 1), (300, 180));
-    let idcl = forecast(&file(&set_k()), 2, 2, 1, 12).unwrap();
-    assert_eq!(cell(&idcl, 2, 2, 1), (338, 203));
-    // Year 1 has R = 0: it keeps its tail, and nothing is left over of 1000 - 1000.
-    assert_eq!(cell(&idcl, 2, 1, 2), (63, 0));
-    assert_eq!(idcl.leftovers, [0; 20]);
+fn entries_of_k() {
+    let forecast = |method| forecast(&file(&set_k()), 2, method, 1, 12).unwrap();
+    let entries = [0, 0, 0, 0, 63, 0, 0, 0, 275, 165, 0, 69];
+    assert_eq!(forecast(0).entries, entries);
+    assert_eq!(cell(&forecast(2), 2, 1, 2), (63, 0));
+    assert_eq!(forecast(0).leftovers, [0; 20]);
+    assert_eq!(forecast(2).leftovers, [0; 20]);
 }
 
 #[test]
@@ -78,52 +57,16 @@ fn actual_counts_of_k() {
     }
 }
 
-#[test]
-fn closing_of_k() {
-    let mut input = b"2 0 1\n".to_vec();
-    input.extend(file_without_incurred(&set_k()));
-    let expected = "1 338 165 503\n2 0 69 69\nT 338 234 572\n";
-    assert_eq!(closing(&input), expected.as_bytes());
-}
-
-#[test]
-fn widest_delays() {
-    let widest = set(&[&[25, 75], &[50]], &[&[750, 250], &[750]], None);
-    let found = delays(&file(&widest), 2).unwrap();
-    assert_eq!(found, list(&[3_000_000_000, -8_000_000_000]));
-    let forecast_2 = forecast(&file(&widest), 2, 0, 1, 12).unwrap();
-    assert_eq!(cell(&forecast_2, 2, 2, 1), (-2000, 2250));
-    let wider = set(&[&[25, 75], &[50]], &[&[751, 249], &[750]], None);
-    assert_eq!(forecast(&file(&wider), 2, 0, 1, 12), Err(12));
-    assert_eq!(delays(&file(&wider), 2), Err(12));
-    assert!(shares(&file(&wider), 2).is_ok());
-}
-
+/// "Row 1 counts 1, 1000: g(0) = 999,001"; with 1, 999 it is 10^6.
 #[test]
 fn least_first_share() {
-    let with_row = |late: i64| set(&[&[1, late], &[1]], &[&[600, 400], &[660]], None);
-    assert_eq!(shares(&file(&with_row(1000)), 2), Err(11));
-    let passed = shares(&file(&with_row(999)), 2).unwrap();
-    assert_eq!(passed.b, list(&[1_000_000, 999_000_000]));
-    let estimated = reference::shares::Triangle::new(2, &with_row(1000).counts).g();
-    assert_eq!(estimated[0].to_i64(), Some(999_001));
-}
-
-#[test]
-fn back_test_of_three_years() {
-    let set = set(
-        &[&[80, 20, 0], &[90, 25], &[100]],
-        &[&[600, 400, 50], &[660, 430], &[700]],
-        None,
-    );
-    let found = back_test(&file(&set), 3, 1, 0, 1).unwrap();
-    let expected = BackTest {
-        cells: 1,
-        by_cell: 10,
-        by_year: 10,
-        in_all: 10,
+    let first = |late: i64| {
+        let set = set(&[&[1, late], &[90]], &[&[600, 400], &[660]], None);
+        let g = reference::shares::Triangle::new(2, &set.counts).g();
+        g[0].to_i64()
     };
-    assert_eq!(found, expected);
+    assert_eq!(first(1000), Some(999_001));
+    assert_eq!(first(999), Some(1_000_000));
 }
 
 #[test]

@@ -1,8 +1,6 @@
 //! The reader and the writer.
 
-mod common;
-
-use common::{file_without_incurred, set_k};
+use reference::examples::{set_k, set_k_without_incurred};
 use reference::generate::{any_set, file, shuffled_file, writer_case, Random};
 use reference::records::{cells, file_length, place};
 use reference::*;
@@ -43,7 +41,7 @@ fn negative_values_are_twos_complement() {
 
 #[test]
 fn length_decides_whether_incurred_is_there() {
-    let bytes = file_without_incurred(&set_k());
+    let bytes = file(&set_k_without_incurred());
     assert_eq!(bytes.len(), 6 * 16);
     let read = read_set(&bytes, 2).unwrap();
     assert!(!read.incurred_there);

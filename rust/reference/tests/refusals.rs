@@ -1,8 +1,6 @@
 //! A refusal for each question, and their order.
 
-mod common;
-
-use common::{file_without_incurred, set, set_k};
+use reference::examples::{set, set_k, set_k_without_incurred, EDGES};
 use reference::generate::file;
 use reference::*;
 
@@ -49,7 +47,7 @@ fn question_2() {
 #[test]
 fn question_3() {
     let good = file(&set_k());
-    let short = file_without_incurred(&set_k());
+    let short = file(&set_k_without_incurred());
     // The first record is a count of cell (1,0), the second of (1,1), the third of (2,0).
     let changes = [
         (0, 3),
@@ -134,7 +132,7 @@ fn questions_3_to_5_go_over_the_whole_file() {
 
 #[test]
 fn question_6() {
-    let (long, short) = (file(&set_k()), file_without_incurred(&set_k()));
+    let (long, short) = (file(&set_k()), file(&set_k_without_incurred()));
     for (method, basis) in [(3, 1), (0, 2), (256, 0), (u64::MAX, 0), (0, u64::MAX)] {
         assert_eq!(forecast(&long, 2, method, basis, 12), Err(6));
         assert_eq!(back_test(&long, 2, 1, method, basis), Err(6));
@@ -221,30 +219,18 @@ fn question_12() {
     assert_eq!(dcl(&file(&wide), 2), Err(12));
 }
 
-/// Methods 1 and 2 refuse, method 0 does not ask.
-fn unfit_incurred(set: &Set, refusals: [Option<Refusal>; 3]) {
-    let found = [0, 1, 2].map(|method| forecast(&file(set), set.m as u64, method, 0, 2_000).err());
+/// The refusals of methods 0 to 2, 0 where one accepts.
+fn refused_by_methods(set: &Set, refusals: [Refusal; 3]) {
+    let of_method = |method| forecast(&file(set), set.m as u64, method, 0, 2_000);
+    let found = [0, 1, 2].map(|method| of_method(method).err().unwrap_or(0));
     assert_eq!(found, refusals);
 }
 
-fn with_incurred(incurred: &[&[i64]]) -> Set {
-    set(&[&[80, 20], &[90]], &[&[600, 400], &[660]], Some(incurred))
-}
-
 #[test]
-fn question_13() {
-    let refused = [None, Some(13), Some(13)];
-    unfit_incurred(&with_incurred(&[&[0, 100], &[5]]), refused);
-    unfit_incurred(&with_incurred(&[&[-1, 100], &[5]]), refused);
-    unfit_incurred(&with_incurred(&[&[100, -100], &[5]]), refused);
-    unfit_incurred(&with_incurred(&[&[100, -101], &[5]]), refused);
-    unfit_incurred(&with_incurred(&[&[100, 0], &[-1]]), refused);
-    unfit_incurred(&with_incurred(&[&[1, 1000], &[1]]), refused);
-    unfit_incurred(&with_incurred(&[&[4001, -3001], &[1000]]), refused);
-    // Both ends of g(0), and a latest row sum of zero.
-    unfit_incurred(&with_incurred(&[&[1, 999], &[1]]), [None; 3]);
-    unfit_incurred(&with_incurred(&[&[4000, -3000], &[1000]]), [None; 3]);
-    unfit_incurred(&with_incurred(&[&[100, 0], &[0]]), [None; 3]);
+fn questions_12_to_14_at_their_edges() {
+    for edge in EDGES {
+        refused_by_methods(&edge.rows.set(), edge.refused);
+    }
 }
 
 /// g(1) leaves the range and g(0) is within it again.
@@ -257,42 +243,7 @@ fn question_13_asks_every_share() {
     let g = reference::shares::Triangle::new(3, &wide.incurred).g();
     let g: Vec<i64> = g.iter().map(|share| share.to_i64().unwrap()).collect();
     assert_eq!(g, [857_142_857, 5_000_000_000, 1_000_000_000]);
-    unfit_incurred(&wide, [None, Some(13), Some(13)]);
-}
-
-#[test]
-fn question_14() {
-    // BDCL: V(2) = 10^6 × W(2) / 10, at the limit and a unit above.
-    let bdcl = |latest: i64| {
-        set(
-            &[&[1, 0], &[1]],
-            &[&[1_000_000, 0], &[1]],
-            Some(&[&[10, 0], &[latest]]),
-        )
-    };
-    unfit_incurred(&bdcl(2_000_000_000), [None; 3]);
-    unfit_incurred(&bdcl(2_000_000_001), [None, Some(14), None]);
-    // IDCL: U(2) = 200001, R = 1; V(2) = 200001 × R*, on both sides.
-    let idcl = |incurred: i64| {
-        set(
-            &[&[1, 0], &[1]],
-            &[&[200_000, 1], &[200_000]],
-            Some(&[&[1_000_000_000, 0], &[incurred]]),
-        )
-    };
-    let reserve = 200_000_000_000_000 / 200_001;
-    unfit_incurred(&idcl(200_000 + reserve), [None; 3]);
-    unfit_incurred(&idcl(200_001 + reserve), [None, None, Some(14)]);
-    let negative = |paid: i64| {
-        set(
-            &[&[1, 0], &[1]],
-            &[&[paid, 1], &[paid]],
-            Some(&[&[1_000_000_000, 0], &[0]]),
-        )
-    };
-    // V(2) = -paid (paid + 1).
-    unfit_incurred(&negative(14_142_135), [None; 3]);
-    unfit_incurred(&negative(14_142_136), [None, None, Some(14)]);
+    refused_by_methods(&wide, [0, 13, 13]);
 }
 
 /// The back-test puts questions 9 on to the cut set only.

@@ -7,7 +7,10 @@ mod forecast;
 mod reader;
 mod shares;
 
-use crate::{Accepted, Difference};
+pub use reader::compare_file as read_set;
+
+use crate::difference::{hexadecimal, Difference};
+use crate::Accepted;
 use reference::generate::{any_set, case, shuffled_file, Case, Random};
 
 /// A call on a case; says whether it was accepted.
@@ -22,7 +25,8 @@ const CALLS: [(&str, Call); 6] = [
     ("back-test", back_test::compare),
 ];
 
-fn compare(seed: u64, case: &Case, accepted: &mut Accepted) -> Result<(), Difference> {
+/// Every call on a case.
+pub fn compare(seed: u64, case: &Case, accepted: &mut Accepted) -> Result<(), Difference> {
     for (name, call) in CALLS {
         *accepted.entry(name).or_default() += u64::from(call(seed, case)?);
     }
@@ -63,7 +67,7 @@ pub fn of_damaged(seed: u64, accepted: &mut Accepted) -> Result<(), Difference> 
 
 /// The arguments of a case; the file in hexadecimal.
 fn arguments(seed: u64, case: &Case) -> String {
-    let file: String = case.file.iter().map(|byte| format!("{byte:02x}")).collect();
+    let file = hexadecimal(&case.file);
     let (m, method, basis, cut, room) = (case.m, case.method, case.basis, case.cut, case.out_len);
     format!("seed {seed}, m {m}, method {method}, basis {basis}, cut {cut}, output of {room}, file {file}")
 }

@@ -1,16 +1,21 @@
 //! The reader.
 
-use super::{arguments, fixed};
-use crate::difference::{same, Difference};
+use super::fixed;
+use crate::difference::{hexadecimal, same, Difference};
 use crate::memory::Memory;
 use pardesul::{calls, Triangle, TriangleSet};
 use reference::generate::Case;
 use reference::{read_set, Set};
 
 pub fn compare(seed: u64, case: &Case) -> Result<bool, Difference> {
-    let text = || arguments(seed, case);
-    let (file, m) = (&case.file, case.m as usize);
-    let wanted = read_set(file, case.m);
+    compare_file(seed, &case.file, case.m)
+}
+
+/// The reader on any file; says whether it was accepted.
+pub fn compare_file(seed: u64, file: &[u8], m: u64) -> Result<bool, Difference> {
+    let text = || format!("seed {seed}, m {m}, file {}", hexadecimal(file));
+    let wanted = read_set(file, m);
+    let m = m as usize;
 
     let flag = seed as u8;
     let mut three = flag;

@@ -1,0 +1,104 @@
+//! The examples of document 01, and sets at the edges of its questions: what the document prints, and
+//! every call on the file.
+
+use crate::difference::{same, Difference};
+use crate::{files, respond, Accepted};
+use pardesul::calls;
+use reference::examples::{Answer, Call, Example, EDGES, EXAMPLES};
+use reference::forecast::entry_count;
+use reference::generate::{file, Case};
+use reference::{BackTest, Forecast, Shares};
+
+/// Compares every example, and says how many there are.
+pub fn examples() -> Result<usize, Difference> {
+    for (seed, example) in (0..).zip(EXAMPLES) {
+        example
+            .check(&answer(example))
+            .map_err(|what| Difference::new(what, example.says.to_string()))?;
+        let (m, file) = example.file();
+        let (method, basis, cut) = match example.call {
+            Call::Forecast { method, basis } => (method, basis, 1),
+            Call::BackTest { method, basis, cut } => (method, basis, cut),
+            _ => (0, 1, 1),
+        };
+        in_lent_memory(seed, case(m, file, method, basis, cut))?;
+    }
+    Ok(EXAMPLES.len())
+}
+
+/// Compares every method on every edge, and says how many edges there are.
+pub fn edges() -> Result<usize, Difference> {
+    for (seed, edge) in (0..).zip(EDGES) {
+        let set = edge.rows.set();
+        for (method, refused) in (0..).zip(edge.refused) {
+            let (mut out, mut leftovers) = (vec![0; entry_count(set.m)], [0; 20]);
+            let refusal = calls::forecast(&file(&set), set.m, method, 0, &mut out, &mut leftovers);
+            same("edge, refusal", refusal, refused, || {
+                format!("method {method}, edge {seed}")
+            })?;
+            in_lent_memory(seed, case(set.m as u64, file(&set), method, 0, 1))?;
+        }
+    }
+    Ok(EDGES.len())
+}
+
+/// The library's answer.
+fn answer(example: &Example) -> Answer {
+    let (m, file) = example.file();
+    let m = m as usize;
+    let (refusal, answer) = match example.call {
+        Call::Shares => {
+            let [mut b, mut n, mut q, mut g, mut u] = [[0; 20]; 5];
+            let refusal = calls::shares(&file, m, &mut b, &mut n, &mut q, &mut g, &mut u);
+            (refusal, Answer::Shares(Box::new(Shares { b, n, q, g, u })))
+        }
+        Call::Delays => {
+            let mut p = [0; 20];
+            (calls::delays(&file, m, &mut p), Answer::Delays(p))
+        }
+        Call::Forecast { method, basis } => {
+            let (mut entries, mut leftovers) = (vec![0; entry_count(m)], [0; 20]);
+            let refusal = calls::forecast(&file, m, method, basis, &mut entries, &mut leftovers);
+            (refusal, Answer::Forecast(Forecast { entries, leftovers }))
+        }
+        Call::BackTest { method, basis, cut } => {
+            let mut sums = [0; 4];
+            let refusal = calls::back_test(&file, m, method, basis, cut as usize, &mut sums);
+            let [cells, by_cell, by_year, in_all] = sums;
+            let test = BackTest {
+                cells,
+                by_cell,
+                by_year,
+                in_all,
+            };
+            (refusal, Answer::BackTest(test))
+        }
+        Call::Closing { line } => {
+            let input = [line.as_bytes(), &file].concat();
+            (0, Answer::Text(pardesul::respond(&input)))
+        }
+    };
+    match refusal {
+        0 => answer,
+        _ => Answer::Refused(refusal),
+    }
+}
+
+fn case(m: u64, file: Vec<u8>, method: u64, basis: u64, cut: u64) -> Case {
+    Case {
+        m,
+        file,
+        method,
+        basis,
+        out_len: entry_count(m as usize) + 1,
+        cut,
+    }
+}
+
+/// Every call on a case against the reference, its lent memory included: a refusal leaves all of it.
+fn in_lent_memory(seed: u64, case: Case) -> Result<(), Difference> {
+    let line = format!("{} {} {}\n", case.m, case.method, case.basis);
+    let input = [line.as_bytes(), &case.file].concat();
+    respond::compare(seed, &input, &mut Accepted::new())?;
+    files::compare(seed, &case, &mut Accepted::new())
+}

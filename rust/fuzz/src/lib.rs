@@ -1,0 +1,84 @@
+//! Coverage-guided fuzzing with libFuzzer: each input is put to the library and to the independent
+//! calculation of `reference`, and the answers and the lent memory are compared bit for bit. New
+//! coverage is that of the calculation and of the library's own machine code.
+
+pub mod blocks;
+mod guarded;
+mod mutate;
+mod system;
+
+pub use mutate::mutate;
+
+use compare::Difference;
+use guarded::Guarded;
+use reference::examples::EXAMPLES;
+use reference::generate::Random;
+
+/// The longest input: a first line and some bytes more than any set has.
+const LONGEST: usize = 10_200;
+
+/// A call to be fuzzed; its input is a head and then a file.
+pub struct Target {
+    /// Compares the call's answer to an input; the seed chooses the memory that is lent.
+    pub compare: fn(u64, &[u8]) -> Result<(), Difference>,
+    /// The input of a seed.
+    pub generate: fn(u64) -> Vec<u8>,
+    /// How many bytes of an input are its head.
+    pub head: fn(&[u8]) -> usize,
+    pub any_head: fn(&mut Random) -> Vec<u8>,
+}
+
+/// The number of years and the file of an example of document 01.
+pub fn any_example(random: &mut Random) -> (u64, Vec<u8>) {
+    EXAMPLES[random.below(EXAMPLES.len())].file()
+}
+
+/// Compares the answer to one input, which lies at an end of memory that can be read; panics where
+/// something differs.
+pub fn test(target: &Target, input: &[u8]) {
+    let seed = input.iter().fold(input.len() as u64, |sum, &byte| {
+        (sum ^ u64::from(byte)).wrapping_mul(0x0100_0000_01b3)
+    });
+    let memory = Guarded::new(LONGEST);
+    let lent = if seed & 1 == 0 {
+        memory.at_end(input)
+    } else {
+        memory.at_start(input)
+    };
+    if let Err(difference) = (target.compare)(seed, lent) {
+        panic!("{difference}");
+    }
+}
+
+/// The functions that libFuzzer calls, for a constant [`Target`].
+#[macro_export]
+macro_rules! fuzz {
+    ($target:expr) => {
+        #[export_name = "LLVMFuzzerInitialize"]
+        extern "C" fn initialize(_: *mut i32, _: *mut *mut *mut u8) -> i32 {
+            $crate::blocks::watch();
+            0
+        }
+
+        #[export_name = "LLVMFuzzerTestOneInput"]
+        unsafe extern "C" fn test_one_input(input: *const u8, length: usize) -> i32 {
+            // SAFETY: libFuzzer lends so many bytes.
+            $crate::test(&$target, unsafe {
+                std::slice::from_raw_parts(input, length)
+            });
+            0
+        }
+
+        #[export_name = "LLVMFuzzerCustomMutator"]
+        unsafe extern "C" fn custom_mutator(
+            input: *mut u8,
+            length: usize,
+            most: usize,
+            seed: u32,
+        ) -> usize {
+            // SAFETY: libFuzzer lends `most` bytes, of which the first `length` are the input.
+            let memory = unsafe { std::slice::from_raw_parts_mut(input, most) };
+            $crate::mutate(&$target, memory, length, seed.into())
+        }
+    };
+}

@@ -1,12 +1,14 @@
--- Laws of the cut: a valid set cut to a smaller size is valid. Assumes nothing.
-use mathlib.Core.Path.{_≡_}
-use mathlib.Core.Bool.{Bool, true, _&&_, _||_, not}
+-- Laws of the cut: what is made of its first rows is all of it, and a valid set cut to a smaller size is valid. Assumes nothing.
+use mathlib.Core.Path.{_≡_, sym}
+use mathlib.Core.Bool.{Bool, true, _&&_, _||_, not, cond}
 use mathlib.Core.List.{List}
 use Prim.Native.Nat.{ℕ, _≤_}
 use native.Mathlib.Omega.{arith}
-use borrow.Author.Tests.{le-leb}
+use borrow.Author.Tests.{le-leb, ltb-false}
+use lib.Dec.{ltb}
 use lib.IntN.{ℤ}
-use Rattle.model.specs.ListsLaws.{and-left, and-right}
+use Rattle.model.specs.Lists.{tabulate, listed}
+use Rattle.model.specs.ListsLaws.{tabulate-ext, and-left, and-right}
 use Rattle.model.specs.Records.{cell, triangle, inRange}
 use Rattle.model.specs.RecordsLaws.{cell-triangle}
 use Rattle.model.specs.BackTest.{cutTo}
@@ -15,6 +17,12 @@ use Rattle.model.specs.QuestionsLaws.{eachCell-at, eachCell-all}
 use Rattle.model.specs.declared.TriangleSet.{TriangleSet}
 use Rattle.triangles.specs.Tests.{by-test}
 use Rattle.chain_ladder.specs.Valid.{Valid, few}
+
+-- the first i places are made, and the others hold d as they should
+pub listed-rest : (n i : ℕ) (f : ℕ → ℤ) (d : ℤ) → ((k : ℕ) → i ≤ k → f k ≡ d) → listed n i f d ≡ tabulate n f
+unfolding listed
+listed-rest n i f d same =
+    tabulate-ext n (λ k. cond (ltb k i) (f k) d) f (λ k h. by-test (ltb k i) (λ e. rw e) (λ e. rw e (sym (same k (ltb-false k i e)))))
 
 module _ (m n : ℕ) (s : TriangleSet) (valid : Valid m s) (least : 2 ≤ n) (less : n ≤ m) where
   -- the cells of a triangle in range t stay there

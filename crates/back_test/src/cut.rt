@@ -2,7 +2,7 @@
 use model::TriangleSet;
 ghost use mathlib.Core.Path.{_≡_};
 ghost use mathlib.Core.Bool.{cond};
-ghost use Prim.Native.Nat.{_+_, _/_, _%_, _<_};
+ghost use Prim.Native.Nat.{_+_, _/_, _%_, _≤_, _<_};
 ghost use lib.IntN.{pos};
 ghost use Rattle.model.specs.Records.{inside, cell, triangle};
 ghost use Rattle.model.specs.BackTest.{cutTo};
@@ -18,13 +18,14 @@ fn kept(t: &[i64; 400], n: usize, p: usize) -> i64
     t[p]
 }
 
-// The cells of a triangle with i + j <= n, zeros in the other places.
+// The cells of a triangle with i + j <= n, zeros in the other places: those of the first n rows are made one after the other.
 fn cut_triangle(t: &[i64; 400], n: usize) -> [i64; 400]
+    requires { ⌜ n ≤ 20 ⌝ }
     ensures { λ r. ⌜ r ≡ triangle n (cell (now (t .entry))) ⌝ }
 {
     let mut out = [0i64; 400];
     let mut p = 0;
-    while p < 400 {
+    while p < 20 * n {
         out[p] = kept(t, n, p);
         p += 1;
     }
@@ -33,6 +34,7 @@ fn cut_triangle(t: &[i64; 400], n: usize) -> [i64; 400]
 
 // A set cut to size n.
 pub fn cut(set: TriangleSet, n: usize) -> TriangleSet
+    requires { ⌜ n ≤ 20 ⌝ }
     ensures { λ r. ⌜ r ≡ cutTo n set ⌝ }
 {
     TriangleSet {

@@ -36,14 +36,14 @@ fn gap(out: &[i64], paid: &[i64; 400], m: usize, n: usize, i: usize, j: usize) -
     rbns + ibnr - paid
 }
 
-// The gap of every cell, cell (i,j) at 20 × (i-1) + j.
+// The gap of every cell, cell (i,j) at 20 × (i-1) + j. Those of the first n rows are made one after the other.
 pub fn gaps(out: &[i64], paid: &[i64; 400], m: usize, n: usize) -> [i64; 400]
     requires { ⌜ Forecast m n (now out) (now paid) ⌝ }
     ensures { λ r. ⌜ r ≡ gaps m n (now (out .entry)) (now (paid .entry)) ⌝ }
 {
     let mut d = [0i64; 400];
     let mut p = 0;
-    while p < 400 {
+    while p < 20 * n {
         d[p] = gap(out, paid, m, n, p / 20 + 1, p % 20);
         p += 1;
     }

@@ -66,9 +66,7 @@ pub fn back_test(file: &[u8], m: usize, method: u64, basis: u64, c: usize) -> Ba
     if read.refusal != 0 {
         return refused(read.refusal);
     }
-    let set = read.set;
-    let three = set.three;
-    if !forecast::method_known(three, method, basis) {
+    if !forecast::method_known(read.set.three, method, basis) {
         return refused(6);
     }
     if c < 1 {
@@ -77,5 +75,5 @@ pub fn back_test(file: &[u8], m: usize, method: u64, basis: u64, c: usize) -> Ba
     if m - 2 < c {
         return refused(8);
     }
-    test_set(set, m, method, basis, c)
+    test_set(read.set, m, method, basis, c)
 }

@@ -124,6 +124,5 @@ pub fn claim_costs(file: &[u8], m: usize) -> model::ClaimCostsAnswer
     if read.refusal != 0 {
         return refused(read.refusal);
     }
-    let set = read.set;
-    claim_costs_of_set(set, m)
+    claim_costs_of_set(read.set, m)
 }

@@ -4,7 +4,7 @@ use crate::cases::Case;
 use std::time::Instant;
 
 /// Rounds, in which the two sides take turns; the best of each counts.
-pub const ROUNDS: usize = 40;
+pub const ROUNDS: usize = 100;
 
 /// About how long a turn lasts, in nanoseconds.
 const TURN: f64 = 2_000_000.0;

@@ -51,7 +51,7 @@ module _ (c : tie.Else1) where
 -- question 6
 module _ (c : tie.After-method-known) where
   abbrev else : tie.Else1
-  else = c .before .before
+  else = c .before
 
   abbrev two : tie.After-read-set
   two = one else

@@ -76,7 +76,7 @@ sub-n : tie.Need-sub-n
 sub-n c = search needs
 
 cut-requires : tie.Need-cut-requires
-cut-requires c κs = search needs
+cut-requires c κs = some c .1
 
 slice-aggregate-forecast-set : tie.Need-slice-aggregate-forecast-set
 slice-aggregate-forecast-set c = search needs

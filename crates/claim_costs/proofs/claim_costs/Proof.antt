@@ -23,15 +23,15 @@ module _ (c : tie.After-read-set) where
   refusal-is = sym (read-refusal m f (c .read-set .ensures))
 
 -- the file is accepted
-module _ (c : tie.After-set) where
+module _ (c : tie.Else1) where
   abbrev read : tie.After-read-set
-  read = c .before .before .before
+  read = c .before .before
 
   accepted : readRefusal (m read) (f read) ≡ 0
-  accepted = refusal-is read ∙ c .before .if1 .left
+  accepted = refusal-is read ∙ c .if1 .left
 
   set-is : read .read-set .result .set ≡ setOf (m read) (f read)
-  set-is = read-whole (m read) (f read) (read .read-set .ensures) (c .before .if1 .left)
+  set-is = read-whole (m read) (f read) (read .read-set .ensures) (c .if1 .left)
 
 read-set-requires : tie.Need-read-set-requires
 read-set-requires c κs = search needs

@@ -2,13 +2,15 @@
 use mathlib.Core.Path.{_≡_, _∙_}
 use mathlib.Core.Bool.{cond}
 use mathlib.Core.List.{List}
-use Prim.Native.Nat.{ℕ, _+_, _-_, _/_, _%_, _≤_}
+use Prim.Native.Nat.{ℕ, _+_, _-_, _*_, _/_, _%_, _≤_}
 use native.Mathlib.Omega.{arith}
 use lib.IntN.{ℤ, pos}
 use mir.Facts.{toZ-ofZ}
 use Rattle.model.specs.Lists.{listed}
-use Rattle.model.specs.ListsLaws.{listed-none, listed-next, listed-whole}
+use Rattle.model.specs.ListsLaws.{listed-none, listed-next}
 use Rattle.model.specs.Records.{inside, cell, triangle}
+use Rattle.model.specs.RecordsLaws.{inside-no}
+use Rattle.back_test.specs.CutLaws.{listed-rest}
 use Rattle.back_test.proofs.cut.cut_triangle.Statement.{statement}
 use Rattle.back_test.proofs.cut.cut_triangle.Tie as tie
 
@@ -16,13 +18,16 @@ abbrev keptAt : List ℤ → ℕ → ℕ → ℤ
 keptAt t n p = cond (inside n (p / 20 + 1) (p % 20)) (cell t (p / 20 + 1) (p % 20)) (pos 0)
 
 abbrev Inv-loop : tie.InvT-loop
-Inv-loop t n out₀ p₀ out p = (p ≤ 400) × (out ≡ listed 400 p (keptAt t n) (pos 0))
+Inv-loop t n out₀ p₀ out p = (p ≤ 20 * n) × (out ≡ listed 400 p (keptAt t n) (pos 0))
 
 abbrev μ-loop : tie.MeasureT-loop
-μ-loop t n out₀ p₀ out p = 400 - p
+μ-loop t n out₀ p₀ out p = 20 * n - p
 
 loop-holds : tie.Need-loop-holds Inv-loop μ-loop
 loop-holds c = (omega arith, listed-none 400 _ (pos 0))
+
+mul-loop : tie.Need-mul-loop Inv-loop μ-loop
+mul-loop c = omega arith
 
 kept-requires : tie.Need-kept-requires Inv-loop μ-loop
 kept-requires c κs = omega arith
@@ -46,7 +51,9 @@ loop-again c =
 
 returns : tie.Need-returns Inv-loop μ-loop
 unfolding triangle
-returns c = let e : c .before .loop .p ≡ 400 = omega arith in rw e at (c .before .loop .inv .1) ∙ listed-whole 400 _ (pos 0)
+returns c =
+    let l = c .before .loop in
+    l .inv .1 ∙ listed-rest 400 (l .p) _ (pos 0) (λ p h. rw (inside-no (c .before .before .args .n) (p / 20 + 1) (p % 20) (omega arith)))
 
 pub cut-triangle-spec : {M : Type 1} → statement M
 cut-triangle-spec =
@@ -55,6 +62,7 @@ cut-triangle-spec =
     Inv-loop
     μ-loop
     loop-holds
+    mul-loop
     kept-requires
     mul-out
     array-set-from-out

@@ -1,24 +1,39 @@
 -- `gaps::gaps` meets its contract: the places so far are made. Assumes nothing.
 use mathlib.Core.Path.{_≡_, _∙_}
-use Prim.Native.Nat.{_+_, _-_, _/_, _%_, _≤_}
+use mathlib.Core.List.{List}
+use Prim.Native.Nat.{ℕ, _+_, _-_, _*_, _/_, _%_, _≤_}
 use native.Mathlib.Omega.{arith}
-use lib.IntN.{pos}
+use borrow.Author.Tests.{lt-leb}
+use lib.IntN.{ℤ, pos}
 use mir.Facts.{toZ-ofZ}
 use Rattle.model.specs.Lists.{listed}
-use Rattle.model.specs.ListsLaws.{listed-none, listed-next, listed-whole}
+use Rattle.model.specs.ListsLaws.{listed-none, listed-next}
+use Rattle.model.specs.BackTest.{compared}
+use Rattle.back_test.specs.CutLaws.{listed-rest}
 use Rattle.back_test.specs.Gaps as Gaps
 use Rattle.back_test.specs.Gaps.{gapFrom}
 use Rattle.back_test.proofs.gaps.gaps.Statement.{statement}
 use Rattle.back_test.proofs.gaps.gaps.Tie as tie
 
 abbrev Inv-loop : tie.InvT-loop
-Inv-loop out paid m n d₀ p₀ d p = (p ≤ 400) × (d ≡ listed 400 p (λ p. gapFrom m n out paid (p / 20 + 1) (p % 20)) (pos 0))
+Inv-loop out paid m n d₀ p₀ d p = (p ≤ 20 * n) × (d ≡ listed 400 p (λ p. gapFrom m n out paid (p / 20 + 1) (p % 20)) (pos 0))
 
 abbrev μ-loop : tie.MeasureT-loop
-μ-loop out paid m n d₀ p₀ d p = 400 - p
+μ-loop out paid m n d₀ p₀ d p = 20 * n - p
 
 loop-holds : tie.Need-loop-holds Inv-loop μ-loop
 loop-holds c = (omega arith, listed-none 400 _ (pos 0))
+
+-- a row past the last one is not compared
+past : (m n : ℕ) (out paid : List ℤ) (p : ℕ) → 20 * n ≤ p → gapFrom m n out paid (p / 20 + 1) (p % 20) ≡ pos 0
+unfolding gapFrom compared
+past m n out paid p h = rw (lt-leb (p / 20 + 1) n (omega arith))
+
+few : (s : tie.Start Inv-loop μ-loop) → s .args .n ≤ 20
+few s = omega (arith, s .pre .less, s .pre .few)
+
+mul-loop : tie.Need-mul-loop Inv-loop μ-loop
+mul-loop c = omega (arith, few (c .before))
 
 add-gap : tie.Need-add-gap Inv-loop μ-loop
 add-gap c = omega arith
@@ -45,7 +60,10 @@ loop-again c =
 
 returns : tie.Need-returns Inv-loop μ-loop
 unfolding Gaps.gaps
-returns c = let e : c .before .loop .p ≡ 400 = omega arith in rw e at (c .before .loop .inv .1) ∙ listed-whole 400 _ (pos 0)
+returns c =
+    let l = c .before .loop in
+    let a = c .before .before .args in
+    l .inv .1 ∙ listed-rest 400 (l .p) _ (pos 0) (λ p h. past (a .m) (a .n) (a .out .now) (a .paid .now) p (omega arith))
 
 pub gaps-spec : {M : Type 1} → statement M
 gaps-spec =
@@ -54,6 +72,7 @@ gaps-spec =
     Inv-loop
     μ-loop
     loop-holds
+    mul-loop
     add-gap
     gap-requires
     mul-d

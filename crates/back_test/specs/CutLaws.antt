@@ -15,7 +15,7 @@ use Rattle.model.specs.BackTest.{cutTo}
 use Rattle.model.specs.Questions.{q1, q5Writer, eachCell}
 use Rattle.model.specs.QuestionsLaws.{eachCell-at, eachCell-all}
 use Rattle.model.specs.declared.TriangleSet.{TriangleSet}
-use Rattle.triangles.specs.Tests.{by-test}
+use Rattle.model.specs.Tests.{by-test}
 use Rattle.chain_ladder.specs.Valid.{Valid, few}
 
 -- the first i places are made, and the others hold d as they should

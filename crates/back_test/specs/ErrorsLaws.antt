@@ -13,7 +13,7 @@ use Rattle.integers.specs.Sums.{sum, sum-suc, sum-cong, sum-nothing, sum-natAbs
 use Rattle.model.specs.Lists.{total}
 use Rattle.model.specs.Records.{cell}
 use Rattle.model.specs.BackTest.{errorByCell, yearGap, errorByYear, errorInAll}
-use Rattle.triangles.specs.Tests.{by-test}
+use Rattle.model.specs.Tests.{by-test}
 use Rattle.back_test.specs.Gaps.{SmallGaps, rowInYear}
 
 -- ---- totals

@@ -17,7 +17,7 @@ use Rattle.model.specs.Cells.{placeOf, yearOf, delayOf, size, rbns, ibnr, entry
 use Rattle.model.specs.BackTest.{compared, cellNumber, cutTo, gap}
 use Rattle.model.specs.Agreement.{comparedCells, numbersAgree, cell-numbers, placeAgrees, placesAgree, places}
 use Rattle.model.specs.declared.TriangleSet.{TriangleSet}
-use Rattle.triangles.specs.Tests.{by-test}
+use Rattle.model.specs.Tests.{by-test}
 use Rattle.back_test.specs.Gaps.{Forecast, gapFrom, gaps, SmallGaps}
 
 -- what a compared cell is

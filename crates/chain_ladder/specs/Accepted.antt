@@ -16,8 +16,8 @@ use Rattle.model.specs.Questions.{Question, firstNo, q4, q5, q5Writer, kinds, e
 use Rattle.model.specs.QuestionsLaws.{all-yes, numbered, first-append, eachCell-at, eachCell-all}
 use Rattle.model.specs.Calls.{readRefusal, readAnswer}
 use Rattle.model.specs.declared.ReadAnswer.{ReadAnswer}
-use Rattle.triangles.specs.Lengths.{size-so}
-use Rattle.triangles.specs.Tests.{by-test}
+use Rattle.model.specs.Lengths.{size-so}
+use Rattle.model.specs.Tests.{by-test}
 use Rattle.chain_ladder.specs.Valid.{Valid}
 
 -- ---- a sum over the numbers that p says yes to

@@ -14,7 +14,7 @@ use Rattle.model.specs.Rounding.{S, r}
 use Rattle.model.specs.Shares as Shares
 use Rattle.model.specs.Shares.{latest, A, B, g, gDown, gList, bList, ultimate}
 use Rattle.model.specs.QuestionsLaws.{within-so, within-yes}
-use Rattle.triangles.specs.Tests.{by-test}
+use Rattle.model.specs.Tests.{by-test}
 use Rattle.chain_ladder.specs.SharesLaws.{NotNegative, Sound, g-range, g-down, at-gList}
 use Rattle.chain_ladder.specs.Sums.{Small, latests, aSums, bSums}
 use Rattle.chain_ladder.specs.SumsLaws.{latest-small, A-small, B-small}

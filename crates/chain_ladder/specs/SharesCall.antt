@@ -8,7 +8,7 @@ use Rattle.model.specs.Records.{setOf}
 use Rattle.model.specs.Questions.{firstNo, ofShares}
 use Rattle.model.specs.Calls.{readRefusal, sharesRefusal, sharesOf, noShares, sharesAnswer}
 use Rattle.model.specs.declared.SharesAnswer.{SharesAnswer}
-use Rattle.triangles.specs.Tests.{by-test}
+use Rattle.model.specs.Tests.{by-test}
 use Rattle.chain_ladder.specs.Valid.{Valid}
 use Rattle.chain_ladder.specs.Accepted.{valid-set, file-no, file-yes, file-so}
 

@@ -13,7 +13,7 @@ use Rattle.model.specs.Questions.{q1, q5Writer, eachCell}
 use Rattle.model.specs.Calls.{zeros}
 use Rattle.model.specs.QuestionsLaws.{within-so, eachCell-at}
 use Rattle.model.specs.declared.TriangleSet.{TriangleSet}
-use Rattle.triangles.specs.Lengths.{size-so}
+use Rattle.model.specs.Lengths.{size-so}
 use Rattle.chain_ladder.specs.SharesLaws.{NotNegative}
 use Rattle.chain_ladder.specs.Sums.{Small}
 

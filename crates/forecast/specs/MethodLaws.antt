@@ -23,7 +23,7 @@ use Rattle.model.specs.Questions.{within, usesIncurred, firstNo, ofMethod, q13,
 use Rattle.model.specs.QuestionsLaws.{yes-first, no-first, all-yes, within-so, within-yes}
 use Rattle.model.specs.Calls.{zeros}
 use Rattle.model.specs.declared.TriangleSet.{TriangleSet}
-use Rattle.triangles.specs.Tests.{by-test}
+use Rattle.model.specs.Tests.{by-test}
 use Rattle.chain_ladder.specs.declared.Incurred.{Incurred}
 use Rattle.chain_ladder.specs.declared.Development.{Development}
 use Rattle.chain_ladder.specs.Developed.{development, incurredOf}

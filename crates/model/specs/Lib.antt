@@ -2,6 +2,7 @@
 pub mod Lists
 pub mod ListsLaws
 pub mod Overlay
+pub mod Tests
 pub mod Records
 pub mod RecordsLaws
 pub mod Rounding
@@ -16,6 +17,7 @@ pub mod ClaimCosts
 pub mod BackTest
 pub mod Questions
 pub mod QuestionsLaws
+pub mod Lengths
 pub mod Calls
 pub mod Agreement
 pub mod Examples

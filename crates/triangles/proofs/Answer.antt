@@ -11,10 +11,10 @@ use Rattle.model.specs.Lists.{at, every, total, tabulate}
 use Rattle.model.specs.Records.{records, hasIncurred, setOf}
 use Rattle.model.specs.Questions.{q1, q2, q3, q4, q5, kinds, firstNo, ofRecords, ofFile}
 use Rattle.model.specs.Calls.{readRefusal, readAnswer, noSet}
-use Rattle.triangles.specs.Tests.{by-test}
+use Rattle.model.specs.Tests.{by-test}
 use Rattle.triangles.specs.OneRecord.{wellFormed, q3-formed, ranged}
 use Rattle.triangles.specs.Places.{cells-of}
-use Rattle.triangles.specs.Lengths.{size-so, length-so}
+use Rattle.model.specs.Lengths.{size-so, length-so}
 use Rattle.triangles.specs.Keys.{Keyed, keyCount, keySum}
 use Rattle.triangles.proofs.Once.{cellKey, cell-keys, keyed, fourth, triangle-key}
 

@@ -9,7 +9,7 @@ use lib.Dec.{eqb}
 use lib.ListN.{getD}
 use Rattle.model.specs.ListsLaws.{and-left, and-right}
 use Rattle.model.specs.Records.{leastFirst, sparesZero}
-use Rattle.triangles.specs.Tests.{same-test}
+use Rattle.model.specs.Tests.{same-test}
 
 zero-both : (x y s : ℕ) → (s ≡ 0 → (x ≡ 0) × (y ≡ 0)) → (x ≡ 0 → y ≡ 0 → s ≡ 0) → eqb s 0 ≡ (eqb x 0 && eqb y 0)
 zero-both x y s p q =

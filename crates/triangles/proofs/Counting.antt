@@ -14,7 +14,7 @@ use lib.ListN.{length, getD, set, length-set, getD-replicate, replicate}
 use Rattle.integers.specs.Sums.{sum}
 use Rattle.model.specs.Lists.{at, total, count}
 use Rattle.model.specs.Records.{valueAt}
-use Rattle.triangles.specs.Tests.{by-test}
+use Rattle.model.specs.Tests.{by-test}
 use Rattle.triangles.specs.Stores.{getD-set}
 use Rattle.triangles.specs.Keys.{keyAt, keyCount, keySum}
 

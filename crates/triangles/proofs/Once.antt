@@ -16,7 +16,7 @@ use Rattle.model.specs.Lists.{at, every, total, count, tabulate}
 use Rattle.model.specs.ListsLaws.{every-at, every-all, and-left, and-right, tabulate-ext}
 use Rattle.model.specs.Records.{inside, kindAt, yearAt, delayAt, sparesZero, records, isOf, copies, valueOf, triangle}
 use Rattle.model.specs.Questions.{eachCell}
-use Rattle.triangles.specs.Tests.{by-test, same-test}
+use Rattle.model.specs.Tests.{by-test, same-test}
 use Rattle.triangles.specs.Folds.{totals, fold-ext, fold-unit, fold-split, fold-pick, joined, total-fold}
 use Rattle.triangles.specs.OneRecord.{wellFormed}
 use Rattle.triangles.specs.Places.{insideAt, inside-so, inside-yes, eachCell-at, eachCell-all}

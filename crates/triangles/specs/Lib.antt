@@ -1,11 +1,9 @@
--- Laws of lists and tests, the records of a file and their order, and the bytes that the writer writes.
-pub mod Tests
+-- Laws of lists, the records of a file and their order, and the bytes that the writer writes.
 pub mod Stores
 pub mod Folds
 pub mod OneRecord
 pub mod Order
 pub mod Places
-pub mod Lengths
 pub mod Keys
 pub mod Written
 pub mod WrittenLaws

@@ -11,7 +11,7 @@ use Rattle.model.specs.Lists.{at, every, total, count}
 use Rattle.model.specs.ListsLaws.{every-at, every-all, and-left, and-right}
 use Rattle.model.specs.Records.{inside, cell}
 use Rattle.model.specs.Questions.{eachCell}
-use Rattle.triangles.specs.Tests.{by-test, same-test, asked, not-asked}
+use Rattle.model.specs.Tests.{by-test, same-test, asked, not-asked}
 
 -- place p is a cell of a triangle of m years
 abbrev pub insideAt : ℕ → ℕ → Bool

@@ -12,9 +12,9 @@ use Rattle.model.specs.Records.{cell, valueOf, setLength, hasIncurred, triangle
 use Rattle.model.specs.Questions.{q1, q2, q3, q4, q5Writer, kinds, eachCell, firstNo, ofRecords, ofFile}
 use Rattle.model.specs.Calls.{readRefusal, readAnswer}
 use Rattle.triangles.specs.OneRecord.{q3-formed}
-use Rattle.triangles.specs.Tests.{by-test}
+use Rattle.model.specs.Tests.{by-test}
 use Rattle.triangles.specs.Places.{insideAt, cell-place, eachCell-at, cells-of}
-use Rattle.triangles.specs.Lengths.{size-so, length-yes}
+use Rattle.model.specs.Lengths.{size-so, length-yes}
 use Rattle.triangles.specs.Written.{ofKind, setBytes}
 use Rattle.triangles.specs.WrittenLaws.{length-kinds, third, fourth, fifth, triangle-held, triangle-none}
 

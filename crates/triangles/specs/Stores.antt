@@ -7,7 +7,7 @@ use borrow.Author.Tests.{eqb-true, eqb-false}
 use lib.Dec.{eqb}
 use lib.ListN.{length, getD, set}
 use lib.Seq.{getD-set-same, getD-set-other}
-use Rattle.triangles.specs.Tests.{by-test}
+use Rattle.model.specs.Tests.{by-test}
 
 -- what is read at j after a write at i
 pub getD-set : {A : Type 0} (l : List A) (i j : ℕ) (v d : A) → i < length l → getD (set l i v) j d ≡ cond (eqb i j) v (getD l j d)

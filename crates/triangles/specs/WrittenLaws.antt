@@ -17,7 +17,7 @@ use Rattle.model.specs.Records.{cell, sparesZero, valueAt, leastFirst, signed, 
 use Rattle.model.specs.Questions.{q5, eachCell}
 use Rattle.triangles.specs.Folds.{Monoid, alls, totals, sums, fold, fold-unit, fold-pick, joined, every-fold, total-fold, sum-fold}
 use Rattle.triangles.specs.OneRecord.{Local, wellFormed, wellFormed-local, ranged, ranged-local, ofCell, ofCell-local, value-local, over, over-append}
-use Rattle.triangles.specs.Tests.{by-test}
+use Rattle.model.specs.Tests.{by-test}
 use Rattle.triangles.specs.Places.{insideAt, cell-place, eachCell-all}
 use Rattle.triangles.specs.Written.{bits, digits, recordBytes, placeBytes, kindBytes, kindsBytes}
 

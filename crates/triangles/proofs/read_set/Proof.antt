@@ -4,7 +4,7 @@ use native.Mathlib.Omega.{arith}
 use mathlib.Core.Path.{_≡_, _∙_}
 use mathlib.Core.Bool.{true, false}
 use Rattle.model.specs.Questions.{q1}
-use Rattle.triangles.specs.Lengths.{cells-most, size-yes, size-low, size-high, length-yes, length-no}
+use Rattle.model.specs.Lengths.{cells-most, size-yes, size-low, size-high, length-yes, length-no}
 use Rattle.triangles.proofs.Answer.{no-1, no-2}
 use Rattle.triangles.proofs.read_set.Statement.{statement}
 use Rattle.triangles.proofs.read_set.Tie as tie

@@ -5,7 +5,7 @@ use borrow.Author.Tests.{not-true, not-false}
 use mathlib.Core.Path.{_≡_, sym, _∙_}
 use mathlib.Core.Bool.{true}
 use Rattle.model.specs.Questions.{q1, q5Writer}
-use Rattle.triangles.specs.Lengths.{size-yes, size-low, size-high}
+use Rattle.model.specs.Lengths.{size-yes, size-low, size-high}
 use Rattle.triangles.specs.RoundTrip.{length-set}
 use Rattle.triangles.proofs.Writing.{no-1, no-5, no-7, yes}
 use Rattle.triangles.proofs.write_set.Statement.{statement}

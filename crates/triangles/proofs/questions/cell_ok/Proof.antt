@@ -3,7 +3,7 @@ use borrow.Author.Needs.{needs}
 use mathlib.Core.Path.{sym, ap, _∙_}
 use mir.Facts.{toZ-ofZ}
 use Rattle.model.specs.Records.{inRange}
-use Rattle.triangles.specs.Tests.{asked, not-asked}
+use Rattle.model.specs.Tests.{asked, not-asked}
 use Rattle.triangles.proofs.questions.cell_ok.Statement.{statement}
 use Rattle.triangles.proofs.questions.cell_ok.Tie as tie
 

@@ -1,7 +1,7 @@
 -- `set_length` meets its contract. Assumes nothing.
 use borrow.Author.Needs.{needs}
 use native.Mathlib.Omega.{arith}
-use Rattle.triangles.specs.Lengths.{cells-most}
+use Rattle.model.specs.Lengths.{cells-most}
 use Rattle.triangles.proofs.writer.set_length.Statement.{statement}
 use Rattle.triangles.proofs.writer.set_length.Tie as tie
 

@@ -8,10 +8,10 @@ use mathlib.Core.List.{List}
 use borrow.Author.Tests.{le-leb, lt-leb, leb-true, eq-eqb, ne-eqb, eqb-true}
 use lib.Dec.{leb, eqb}
 use lib.ListN.{length}
 use Rattle.model.specs.ListsLaws.{and-left, and-right}
 use Rattle.model.specs.Records.{setLength, hasIncurred}
 use Rattle.model.specs.Questions.{q1, q2}
-use Rattle.triangles.specs.Tests.{by-test}
+use Rattle.model.specs.Tests.{by-test}
 
 pub cells-most : (m : ℕ) → m ≤ 20 → m * (m + 1) ≤ 420
 cells-most m hi = let h : m + 1 ≤ 21 = omega arith in mul-le-mul hi h

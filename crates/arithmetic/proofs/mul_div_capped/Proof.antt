@@ -44,7 +44,11 @@ returns c =
     sym (capped-over (s .args .cap) (rounded s) (omega (arith, l)))
 
 mul-div-requires : tie.Need-mul-div-requires
-mul-div-requires c κs = search needs
+mul-div-requires c κs =
+    let w = c .before .before .before in
+    let s = w .before in
+    let p = w .wide-product .ensures .0 ∙ ap₂ _*_ (abs-read (s .fits .a)) (abs-read (s .fits .x)) in
+    rw (toZ-ofZ (s .fits .a), toZ-ofZ (s .fits .x), toZ-ofZ (s .fits .d)) (s .pre .0, s .pre .1, s .pre .2, s .pre .3, omega (arith, p, d-is (c .before)))
 
 k-is : (c : tie.After-mul-div) → toZ w64 (ofZ w64 (c .mul-div .result)) ≡ rounded (start c)
 k-is c =

@@ -28,10 +28,10 @@ add-end-2 : tie.Need-add-end-2
 add-end-2 c = omega (arith, row c, mod-lt (c .args .n) {m = 2 * c .args .m - 1} (omega arith))
 
 returns : tie.Need-returns
-returns c = search needs
+returns c = omega arith
 
 returns-2 : tie.Need-returns-2
-returns-2 c = search needs
+returns-2 c = omega arith
 
 pub calendar-year-spec : {M : Type 1} → statement M
 calendar-year-spec =

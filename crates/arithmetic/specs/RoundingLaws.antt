@@ -115,14 +115,6 @@ r-least a b c h l = below-next c (r a b) b h (nlin (r a b ∷ a ∷ b ∷ c ∷ 
 pub r-exact : (k b : ℤ) → pos 0 ⋖ b → r (k *ℤ b) b ≡ k
 r-exact k b h = ≤ℤ-antisym (r-most (k *ℤ b) b k h (≤ℤ-refl (k *ℤ b))) (r-least (k *ℤ b) b k h (≤ℤ-refl (k *ℤ b)))
 
--- a greater numerator rounds to no less
-pub r-mono : (a a′ b : ℤ) → pos 0 ⋖ b → a ⩽ a′ → r a b ⩽ r a′ b
-r-mono a a′ b h l = go (<ℤ-or-≥ a a′)
-  where
-    go : (a ⋖ a′) ⊎ (a′ ⩽ a) → r a b ⩽ r a′ b
-    go (inl g) = below-next (r a b) (r a′ b) b h (nlin (r a b ∷ r a′ b ∷ a ∷ a′ ∷ b ∷ []) (r-upper a b h & r-lower a′ b h & g) (search nstmt depth 20) (omega arith))
-    go (inr g) = rw (≤ℤ-antisym l g) (≤ℤ-refl (r a′ b))
-
 -- the sign is kept
 pub r-nonneg : (a b : ℤ) → pos 0 ⋖ b → pos 0 ⩽ a → pos 0 ⩽ r a b
 r-nonneg a b h l = r-least a b (pos 0) h (nlin (a ∷ b ∷ []) l (search nstmt depth 20) (omega arith))

@@ -1,6 +1,6 @@
 // The number of cells compared, and the sums of absolute errors. The gap of cell (i,j) stands at 20 × (i-1) + j.
 ghost use mathlib.Core.Path.{_≡_};
-ghost use Prim.Native.Nat.{suc, _+_, _^_, _*_, _≤_, _<_, min};
+ghost use Prim.Native.Nat.{suc, _+_, _*_, _≤_, _<_, min};
 ghost use lib.IntN.{natAbs};
 ghost use Rattle.integers.specs.Sums.{sum};
 ghost use Rattle.model.specs.Lists.{total};

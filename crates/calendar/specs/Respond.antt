@@ -14,7 +14,6 @@ use Rattle.model.specs.Calendar.{runAt, first, second, third, firstLine, refusa
 use Rattle.model.specs.Calls.{ifAccepted, zeros, forecastRefusal, forecastOutput, closingOf, closingText, respondAnswer, respondOutput}
 use Rattle.model.specs.declared.Run.{Run}
 use Rattle.model.specs.declared.Run.the-variants.{Number, Wrong}
-use Rattle.model.specs.declared.FirstLine.{FirstLine}
 use Rattle.model.specs.declared.FirstLine.the-variants.{Asked, Refused}
 use Rattle.triangles.specs.Order.{SameRecords}
 use Rattle.triangles.specs.CallsOrder.{forecast-refusal-order, output-order}

@@ -4,17 +4,16 @@ use mathlib.Core.Bool.{Bool, true, false, _&&_, cond, and-false}
 use mathlib.Core.Logic.{_⊎_, ⊎-elim}
 use mathlib.Core.List.{List, [], _∷_}
 use Prim.Native.Nat.{ℕ, zero, suc, _+_, _-_, _*_, _^_, _≤_, _<_}
-use native.Mathlib.Nat.{mul-le-mul-left, mul-le-mul-right, mul-comm}
+use native.Mathlib.Nat.{mul-le-mul-left, mul-comm}
 use native.Mathlib.Omega.{arith}
 use borrow.Author.Tests.{eqb-true, eqb-false, le-leb, lt-leb, le-ltb, lt-ltb, leb-true, leb-false, ltb-true}
 use lib.Dec.{leb, ltb, eqb}
 use lib.IntN.{ℤ, pos, natAbs, _+ℤ_, _*ℤ_}
-use Rattle.integers.specs.Parts.{_⩽_}
 use Rattle.integers.specs.Linear.{lin₀, stmt}
 use Rattle.integers.specs.Order.{natAbs-*ℤ, natAbs-mono, natAbs-plus, ≤ℤ-trans}
-use Rattle.integers.specs.Sums.{sum, sum-suc, sum-cong, sum-nothing, sum-ends, sum-part, sum-nonneg, sum-dominated}
+use Rattle.integers.specs.Sums.{sum, sum-suc, sum-cong, sum-nothing, sum-part, sum-nonneg, sum-dominated}
 use Rattle.model.specs.Lists.{at}
-use Rattle.model.specs.ListsLaws.{and-left, and-right}
+use Rattle.model.specs.ListsLaws.{and-right}
 use Rattle.model.specs.Cells.{pairs}
 use Rattle.cells.specs.Weights.{Weights, Delays}
 

@@ -1,12 +1,12 @@
 -- What Ready gives of a year i: its count share and latest sum as they stand in the lists, and that its weights are weights. Assumes nothing.
-use mathlib.Core.Path.{_≡_, refl, sym, _∙_, ap, ap₂, subst}
+use mathlib.Core.Path.{_≡_, _∙_, ap}
 use mathlib.Core.Bool.{Bool, true, false, cond}
 use mathlib.Core.List.{List}
-use Prim.Native.Nat.{ℕ, suc, _+_, _-_, _*_, _^_, _≤_, _<_}
+use Prim.Native.Nat.{ℕ, suc, _+_, _-_, _^_, _≤_, _<_}
 use native.Mathlib.Omega.{arith}
 use lib.Dec.{eqb}
 use lib.IntN.{ℤ, pos, natAbs}
-use Rattle.integers.specs.Parts.{_⩽_, _⋖_}
+use Rattle.integers.specs.Parts.{_⋖_}
 use Rattle.integers.specs.Order.{natAbs-mono}
 use Rattle.model.specs.Lists.{at, listed}
 use Rattle.model.specs.ListsLaws.{getD-listed}

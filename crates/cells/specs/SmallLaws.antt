@@ -1,12 +1,10 @@
 -- How large a cell gets: at most 2 × 10^15. Assumes nothing.
-use mathlib.Core.Path.{_≡_, refl, sym, _∙_, ap}
-use mathlib.Core.Bool.{Bool, true, false, _&&_, cond}
 use mathlib.Core.List.{List}
-use Prim.Native.Nat.{ℕ, _+_, _-_, _*_, _^_, _≤_}
+use Prim.Native.Nat.{ℕ, _-_, _*_, _^_, _≤_}
 use native.Mathlib.Nat.{mul-le-mul}
 use native.Mathlib.Omega.{arith}
 use lib.Dec.{leb, ltb}
-use lib.IntN.{ℤ, pos, natAbs, _*ℤ_}
+use lib.IntN.{ℤ, natAbs, _*ℤ_}
 use Rattle.integers.specs.Order.{natAbs-*ℤ, *ℤ-pos}
 use Rattle.model.specs.Rounding.{S, r}
 use Rattle.model.specs.Cells.{pairs, rbnsFrom, ibnrFrom}

@@ -1,29 +1,28 @@
 -- Laws of Weights: the weights of either basis are weights, for a sound triangle of counts. Assumes nothing.
-use mathlib.Core.Path.{_≡_, refl, sym, _∙_, ap, subst}
-use mathlib.Core.Bool.{Bool, true, false, cond}
-use mathlib.Core.Logic.{⊎-elim}
+use mathlib.Core.Path.{_≡_, refl, _∙_, ap}
+use mathlib.Core.Bool.{Bool, true, false}
 use mathlib.Core.List.{List, [], _∷_}
-use Prim.Native.Nat.{ℕ, suc, _+_, _-_, _*_, _^_, _≤_, _<_}
+use Prim.Native.Nat.{ℕ, suc, _+_, _-_, _^_, _≤_, _<_}
 use native.Mathlib.Numerals.{add-one}
 use native.Mathlib.Omega.{arith}
 use borrow.Author.Tests.{ltb-true, ltb-false}
-use lib.Dec.{eqb, ltb}
-use lib.IntN.{ℤ, pos, natAbs, _+ℤ_, _*ℤ_, _-ℤ_}
+use lib.Dec.{ltb}
+use lib.IntN.{ℤ, pos, _+ℤ_, _*ℤ_}
 use Rattle.integers.specs.Parts.{_⩽_, _⋖_, ints}
 use Rattle.integers.specs.Linear.{lin, stmt, _&_}
 use Rattle.integers.specs.Monomials.{nlin, nstmt}
-use Rattle.integers.specs.Order.{≤ℤ-of-≡, ≤ℤ-trans, nonneg, *ℤ-nonneg, *ℤ-cancel-≤}
+use Rattle.integers.specs.Order.{≤ℤ-of-≡, nonneg, *ℤ-nonneg, *ℤ-cancel-≤}
 use Rattle.integers.specs.Sums.{sum, sum-cong, sum-ends, sum-mono, sum-+ℤ, sum-*ℤ-l, sum-*ℤ-r, sum-const}
 use Rattle.model.specs.Lists.{at, listed}
 use Rattle.model.specs.ListsLaws.{getD-listed, getD-listed-past}
 use Rattle.model.specs.Records.{cell}
-use Rattle.model.specs.Rounding.{S, r}
+use Rattle.model.specs.Rounding.{S}
 use Rattle.model.specs.Shares as Shares
 use Rattle.model.specs.Shares.{C, latest, g, bList}
 use Rattle.model.specs.Cells.{sList}
 use Rattle.model.specs.declared.TriangleSet.{TriangleSet}
 use Rattle.arithmetic.specs.RoundingLaws.{r-nonneg, r-upper}
-use Rattle.chain_ladder.specs.SharesLaws.{Sound, at-bList, share-range, shares-sum, g-range}
+use Rattle.chain_ladder.specs.SharesLaws.{Sound, share-range, shares-sum, g-range}
 use Rattle.cells.specs.Weights.{Weights, actualWeight, weightsFrom}
 
 -- a list of 20 places whose first n hold f, which is not negative

@@ -1,5 +1,5 @@
 -- What questions 9 to 11 and 13 say of a set, and the answers of `develop` and `incurred_ultimates` by them. Assumes nothing.
-use mathlib.Core.Path.{_≡_, refl, sym, _∙_, ap, ap₂}
+use mathlib.Core.Path.{_≡_, refl, _∙_, ap, ap₂}
 use mathlib.Core.Bool.{Bool, true, false, _&&_}
 use mathlib.Core.List.{List}
 use Prim.Native.Nat.{ℕ, suc, _-_, _^_, _≤_, _<_}
@@ -148,9 +148,6 @@ module _ (m : ℕ) (s : TriangleSet) where
   pub q13-is : q13 m s ≡ ((A-above m (s .incurred) && B-above m (s .incurred)) && latest-least m (s .incurred) && every m (λ j. bounded (g m (s .incurred) j)))
   unfolding q13
   q13-is = rw (every-and (λ k. ltZ (pos 0) (A m (s .incurred) (suc k))) (λ k. ltZ (pos 0) (B m (s .incurred) (suc k))) (m - 1))
-
-  pub incurred-bounds : q13 m s ≡ true → every m (λ j. bounded (g m (s .incurred) j)) ≡ true
-  incurred-bounds e = and-right ((A-above m (s .incurred) && B-above m (s .incurred)) && latest-least m (s .incurred)) _ (sym q13-is ∙ e)
 
   pub incurred-no : q13 m s ≡ false → incurredOf m s ≡ noIncurred
   unfolding incurredOf

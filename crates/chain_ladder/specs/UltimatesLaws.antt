@@ -64,6 +64,3 @@ module _ (m : ℕ) (t : List ℤ) (sound : Sound m t) where
 
   pub first-latest : 2 ≤ m → pos 0 ⋖ latest m t 1
   first-latest h = rw (latest-first m t (omega arith)) (sound .columns (m - 1) (omega arith) (omega arith))
-
-  pub first-ultimate : 2 ≤ m → pos 0 ⋖ ultimate m t 1
-  first-ultimate h = ultimate-pos 1 (omega arith) (omega arith) (first-latest h)

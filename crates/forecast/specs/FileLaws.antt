@@ -1,16 +1,15 @@
 -- Laws of the forecast of a file: its refusal question by question, and its whole contract, demand 3 among it, from the forecast of the set. Assumes nothing.
-use mathlib.Core.Path.{_≡_, refl, sym, _∙_, ap, subst}
-use mathlib.Core.Bool.{Bool, true, false, cond}
+use mathlib.Core.Path.{_≡_, refl, sym, _∙_, ap}
+use mathlib.Core.Bool.{Bool, true, false}
 use mathlib.Core.List.{List, [], _∷_, _++_, append-assoc}
 use Prim.Native.Nat.{ℕ, zero, suc, _≤_, _<_}
 use lib.Dec.{leb}
 use native.Mathlib.Omega.{arith}
 use borrow.Author.Tests.{ne-eqb, le-leb, lt-leb, leb-true, leb-false}
-use lib.IntN.{ℤ, pos}
+use lib.IntN.{ℤ}
 use lib.ListN.{length}
 use Rattle.model.specs.Records.{setOf, hasIncurred}
 use Rattle.model.specs.Delays.{delaysOf}
-use Rattle.model.specs.RowBases.{leftOvers}
 use Rattle.model.specs.Cells.{size, outputFrom}
 use Rattle.model.specs.PaidReserve.{NearReserves}
 use Rattle.model.specs.Questions.{Question, q6, q7, firstNo, ofFile, ofForecast}

@@ -1,20 +1,19 @@
 -- Laws of Method: the bases and left overs from the lists are the model's, and the questions 13 and 14 as the code asks them. Assumes nothing.
 use mathlib.Core.Path.{_≡_, refl, sym, _∙_, ap, ap₂}
-use mathlib.Core.Bool.{Bool, true, false, _&&_, cond, false≢true}
-use mathlib.Core.Logic.{⊎-elim}
+use mathlib.Core.Bool.{Bool, true, false, _&&_, false≢true}
 use mathlib.Core.List.{List, [], _∷_}
-use Prim.Native.Nat.{ℕ, zero, suc, _+_, _-_, _*_, _^_, _≤_, _<_}
+use Prim.Native.Nat.{ℕ, zero, suc, _-_, _*_, _^_, _≤_, _<_}
 use native.Mathlib.Omega.{arith}
-use borrow.Author.Tests.{ne-eqb, eq-eqb, eqb-true, eqb-false, le-leb, lt-leb, leb-true, leb-false}
+use borrow.Author.Tests.{ne-eqb, eq-eqb, eqb-true, eqb-false, le-leb, leb-true, leb-false}
 use lib.Dec.{eqb, leb}
 use lib.IntN.{ℤ, pos, negℤ, natAbs}
 use lib.ListN.{getD-replicate}
 use lib.Signed.{leZ, ltZ, ≤ℤ-refl}
-use Rattle.integers.specs.Parts.{_⩽_, _⋖_, ints}
+use Rattle.integers.specs.Parts.{_⩽_, _⋖_}
 use Rattle.integers.specs.Linear.{lin, stmt}
-use Rattle.integers.specs.Order.{nonneg, nonneg-pos, natAbs-≤, ≤ℤ-trans, le-yes, lt-yes, leZ-true}
+use Rattle.integers.specs.Order.{natAbs-≤, le-yes, lt-yes, leZ-true}
 use Rattle.model.specs.Lists.{at, listed, every}
-use Rattle.model.specs.ListsLaws.{getD-listed, listed-ext, every-at, every-ext, every-all, and-left, and-right}
+use Rattle.model.specs.ListsLaws.{listed-ext, every-at, every-ext, every-all, and-left, and-right}
 use Rattle.model.specs.Shares as Shares
 use Rattle.model.specs.Shares.{latest, A, B, g, ultimate, ultimates}
 use Rattle.model.specs.RowBases as RowBases
@@ -33,8 +32,8 @@ use Rattle.chain_ladder.specs.Sums.{latests}
 use Rattle.chain_ladder.specs.Ladder.{bounded}
 use Rattle.chain_ladder.specs.SharesLaws.{latest-nonneg, at-ultimates}
 use Rattle.chain_ladder.specs.UltimatesLaws.{ultimate-nonneg, ultimate-small, latest-ultimate, ultimate-first, latest-first}
-use Rattle.chain_ladder.specs.Valid.{Valid, few, least, paid-small, incurred-small}
-use Rattle.cells.specs.Bases.{Year, Sizes, baseFrom, leftFrom, baseAt, leftAt, AllSizes, basesOf}
+use Rattle.chain_ladder.specs.Valid.{few, least, paid-small, incurred-small}
+use Rattle.cells.specs.Bases.{Year, baseFrom, leftFrom, baseAt, leftAt, AllSizes, basesOf}
 use Rattle.forecast.specs.Method.{Asked, Incurreds, Sized, rowBases, methodBases, noBases, incurredUnder, basesFrom}
 
 -- a magnitude of at most n

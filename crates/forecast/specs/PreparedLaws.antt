@@ -1,24 +1,21 @@
 -- Laws of Prepared: the answer question by question, and what each stage gives the next. Assumes nothing.
 use mathlib.Core.Path.{_≡_, refl, sym, _∙_, ap, ap₂}
 use mathlib.Core.Bool.{Bool, true, false, _&&_, _||_, not, cond, true≢false}
-use mathlib.Core.List.{List, [], _∷_, _++_}
-use Prim.Native.Nat.{ℕ, zero, suc, _+_, _-_, _*_, _^_, _≤_, _<_}
+use mathlib.Core.List.{_++_}
+use Prim.Native.Nat.{ℕ, zero, suc, _^_, _≤_}
 use native.Mathlib.Omega.{arith}
 use borrow.Author.Tests.{ne-eqb, leb-true}
 use lib.Dec.{eqb, leb}
-use lib.IntN.{ℤ, pos}
+use lib.IntN.{pos}
 use lib.Signed.{leZ}
-use Rattle.integers.specs.Parts.{_⩽_}
 use Rattle.integers.specs.Order.{le-yes}
-use Rattle.integers.specs.Sums.{sum, sum-cong}
-use Rattle.model.specs.Lists.{at}
+use Rattle.integers.specs.Sums.{sum-cong}
 use Rattle.model.specs.ListsLaws.{and-left, and-right}
-use Rattle.model.specs.Rounding.{S}
 use Rattle.model.specs.Shares as Shares
 use Rattle.model.specs.Shares.{g, bList}
 use Rattle.model.specs.Delays.{delaysOf}
 use Rattle.model.specs.RowBases.{leftOvers}
-use Rattle.model.specs.Questions.{usesIncurred, q6, q9, q10, q11, q12, firstNo, ofShares, ofDelays, ofMethod, ofForecast}
+use Rattle.model.specs.Questions.{q6, q9, q10, q11, q12, firstNo, ofShares, ofDelays, ofMethod, ofForecast}
 use Rattle.model.specs.QuestionsLaws.{yes-first, no-first, first-append, numbered}
 use Rattle.model.specs.Calls.{zeros}
 use Rattle.model.specs.declared.TriangleSet.{TriangleSet}

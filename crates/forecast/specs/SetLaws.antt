@@ -1,29 +1,25 @@
 -- Laws of the forecast of a set: what an accepted one gives the writing of the years, and the two answers. Assumes nothing.
-use mathlib.Core.Path.{_≡_, refl, sym, _∙_, ap, ap₂, subst}
-use mathlib.Core.Bool.{Bool, true, false, _&&_, cond}
-use mathlib.Core.Logic.{⊎-elim}
-use mathlib.Core.List.{List, [], _∷_}
-use Prim.Native.Nat.{ℕ, zero, suc, _+_, _-_, _*_, _^_, _≤_, _<_}
+use mathlib.Core.Path.{_≡_, refl, sym, _∙_, ap, subst}
+use mathlib.Core.Bool.{Bool, true, false}
+use mathlib.Core.List.{List}
+use Prim.Native.Nat.{ℕ, suc, _-_, _*_, _^_, _≤_, _<_}
 use native.Mathlib.Omega.{arith}
 use borrow.Author.Tests.{ne-eqb, eqb-true, eqb-false, ltb-true, ltb-false}
 use lib.Dec.{eqb, ltb}
 use lib.IntN.{ℤ, pos, negℤ, natAbs}
-use Rattle.integers.specs.Parts.{_⩽_, _⋖_}
 use Rattle.integers.specs.Order.{natAbs-≤}
-use Rattle.model.specs.Lists.{at, listed, every}
+use Rattle.model.specs.Lists.{at}
 use Rattle.model.specs.ListsLaws.{getD-listed, every-at}
 use Rattle.model.specs.Overlay.{overlay}
 use Rattle.model.specs.Shares as Shares
 use Rattle.model.specs.Shares.{gList, bList}
 use Rattle.model.specs.Delays.{delays, delaysOf}
 use Rattle.model.specs.RowBases.{rowBase, leftOvers}
-use Rattle.model.specs.Cells.{outputFrom, sList}
-use Rattle.model.specs.Questions.{within, usesIncurred, q6, q9, q10, q11, q12, q14, firstNo, ofShares, ofDelays, ofMethod, ofForecast}
+use Rattle.model.specs.Cells.{sList}
+use Rattle.model.specs.Questions.{within, q6, q9, q10, q11, q12, firstNo, ofShares, ofDelays, ofMethod, ofForecast}
 use Rattle.model.specs.QuestionsLaws.{all-yes, within-so}
 use Rattle.model.specs.Calls.{zeros}
 use Rattle.model.specs.declared.TriangleSet.{TriangleSet}
-use Rattle.model.specs.declared.ForecastAnswer.{ForecastAnswer}
-use Rattle.chain_ladder.specs.declared.Development.{Development}
 use Rattle.chain_ladder.specs.Developed.{development}
 use Rattle.chain_ladder.specs.DevelopedLaws.{all-shares, first-none, rows-9}
 use Rattle.chain_ladder.specs.Sums.{latests}
@@ -40,7 +36,7 @@ use Rattle.cells.specs.Ready.{Ready, yearWeights}
 use Rattle.cells.specs.ReadyLaws as ReadyLaws
 use Rattle.cells.specs.ReadyLaws.{g-at, latest-at, shares-fit}
 use Rattle.cells.specs.YearsLaws.{output-is}
-use Rattle.forecast.specs.Prepared.{setRefusal, prepared, unprepared, setAnswer, setOutput}
+use Rattle.forecast.specs.Prepared.{setRefusal, prepared, setAnswer, setOutput}
 use Rattle.forecast.specs.PreparedLaws.{counts-sound, method-asked, refused, whole}
 
 -- what an accepted set answered

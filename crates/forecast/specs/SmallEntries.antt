@@ -1,8 +1,8 @@
 -- Every entry of an accepted forecast is at most 2 × 10^15, so that no calendar-year sum leaves 64 bits. Assumes nothing.
-use mathlib.Core.Path.{_≡_, refl, sym, _∙_, ap, subst}
+use mathlib.Core.Path.{_≡_}
 use mathlib.Core.Bool.{Bool, true, false, cond}
 use mathlib.Core.List.{List}
-use Prim.Native.Nat.{ℕ, suc, _+_, _-_, _*_, _/_, _%_, _^_, _≤_, _<_}
+use Prim.Native.Nat.{ℕ, _+_, _-_, _*_, _/_, _%_, _^_, _≤_, _<_}
 use native.Mathlib.Nat.{mul-assoc, div-lt-iff-lt-mul}
 use native.Mathlib.Omega.{arith}
 use lib.Dec.{leb, eqb}
@@ -10,17 +10,16 @@ use lib.IntN.{ℤ, pos, natAbs}
 use lib.ListN.{length, List·getD-append, drop}
 use Rattle.model.specs.Lists.{at}
 use Rattle.model.specs.ListsLaws.{length-tabulate, getD-tabulate}
-use Rattle.model.specs.Records.{setOf, hasIncurred}
+use Rattle.model.specs.Records.{setOf}
 use Rattle.model.specs.Shares.{bList}
 use Rattle.model.specs.Delays.{delaysOf}
 use Rattle.model.specs.RowBases.{rowBase}
-use Rattle.model.specs.Cells.{size, yearOf, delayOf, rbns, ibnr, sList, entry, entries, outputFrom, rbnsFrom, ibnrFrom}
+use Rattle.model.specs.Cells.{size, yearOf, delayOf, rbns, ibnr, sList, entry, entries, outputFrom}
 use Rattle.model.specs.Questions.{q6}
 use Rattle.model.specs.declared.TriangleSet.{TriangleSet}
 use Rattle.model.specs.Calls.{forecastRefusal, forecastOutput}
 use Rattle.chain_ladder.specs.Accepted.{valid-set}
 use Rattle.chain_ladder.specs.Valid.{Valid, few, least}
-use Rattle.cells.specs.Weights.{Weights, Delays}
 use Rattle.cells.specs.SmallLaws.{rbns-small, ibnr-small}
 use Rattle.forecast.specs.Prepared.{setRefusal}
 use Rattle.forecast.specs.FileLaws.{passed}

@@ -10,7 +10,6 @@ ghost use Prim.Native.Nat.{_≤_};
 ghost use lib.ListN.{length};
 ghost use Rattle.model.specs.Cells.{size};
 ghost use Rattle.model.specs.Questions.{q6};
-ghost use Rattle.model.specs.Calls.{zeros};
 ghost use Rattle.chain_ladder.specs.Valid.{Valid};
 ghost use Rattle.forecast.specs.Prepared.{unprepared, prepared, setAnswer, setOutput};
 

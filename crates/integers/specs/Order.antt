@@ -1,16 +1,16 @@
 -- The order of ℤ and the absolute value.
 -- Assumes nothing.
-use mathlib.Core.Path.{_≡_, refl, sym, _∙_, ap, subst}
+use mathlib.Core.Path.{_≡_, refl, sym, subst}
 use mathlib.Core.Logic.{_⊎_, inl, inr, _↔_}
 use mathlib.Core.Bool.{Bool, true, false, not}
 use mathlib.Core.List.{[], _∷_}
 use Prim.Native.Nat.{ℕ, zero, suc, _+_, _*_, _≤_}
-use native.Mathlib.Nat.{mul-le-mul-right, mul-lt-mul-of-pos-right, mul-zero, le-refl}
+use native.Mathlib.Nat.{mul-le-mul-right, mul-lt-mul-of-pos-right, le-refl}
 use native.Mathlib.Omega.{arith}
 use lib.Dec.{T, leb·zero}
 use lib.IntN.{ℤ, pos, negsuc, negℤ, natAbs, _+ℤ_, _*ℤ_, _-ℤ_, *ℤ-comm, zero-*ℤ}
 use lib.Signed.{_≤ℤ_, _<ℤ_, leZ, ltZ, leZ-yes, ltZ-yes, ltZ-no, clashℤ}
-use Rattle.integers.specs.Parts.{up, dn, ints, add-parts, diff-parts, mul-parts, up-neg, dn-neg, abs-parts, le-parts, lt-parts}
+use Rattle.integers.specs.Parts.{ints, add-parts, diff-parts, mul-parts, le-parts, lt-parts}
 use Rattle.integers.specs.Linear.{lin, stmt, _&_}
 
 -- ---- a linear order
@@ -90,17 +90,6 @@ pub *ℤ-nonneg : {a b : ℤ} → pos 0 ≤ℤ a → pos 0 ≤ℤ b → pos 0 �
 *ℤ-nonneg {a = pos m} {b = pos n} p q = nonneg (m * n)
 *ℤ-nonneg {a = pos m} {b = negsuc n} p q = absurd (q .le)
 *ℤ-nonneg {a = negsuc m} {b = b} p q = absurd (p .le)
-
--- by a number that is not positive the order turns
-pub *ℤ-anti-r : {a b : ℤ} (c : ℤ) → c ≤ℤ pos 0 → a ≤ℤ b → (b *ℤ c) ≤ℤ (a *ℤ c)
-*ℤ-anti-r {a} {b} (pos n) p h = omega (arith, ints, mul-parts a (pos n), mul-parts b (pos n), zero-times n (up a) (pos-zero p), zero-times n (dn a) (pos-zero p), zero-times n (up b) (pos-zero p), zero-times n (dn b) (pos-zero p))
-  where
-    pos-zero : {n : ℕ} → pos n ≤ℤ pos 0 → n ≡ 0
-    pos-zero h = omega (arith, ints)
-
-    zero-times : (n m : ℕ) → n ≡ 0 → m * n ≡ 0
-    zero-times n m e = ap (λ (x : ℕ). m * x) e ∙ mul-zero m
-*ℤ-anti-r {a} {b} (negsuc n) p h = omega (arith, ints, mul-parts a (negsuc n), mul-parts b (negsuc n), mul-le-mul-right (suc n) (le-parts h))
 
 pub *ℤ-mono-< : {a b : ℤ} (c : ℤ) → pos 0 <ℤ c → a <ℤ b → (a *ℤ c) <ℤ (b *ℤ c)
 *ℤ-mono-< {a} {b} (pos n) p h = omega (arith, ints, mul-parts a (pos n), mul-parts b (pos n), mul-lt-mul-of-pos-right {k = n} (lt-parts h) (omega (arith, ints)))

@@ -5,9 +5,9 @@ use mathlib.Core.List.{[], _∷_}
 use Prim.Native.Nat.{ℕ, zero, suc, _+_, _-_, _*_, _≤_, _<_}
 use native.Mathlib.Nat.{add-zero, add-suc, mul-add, mul-comm, mul-le-mul-left}
 use native.Mathlib.Omega.{arith}
-use lib.IntN.{ℤ, pos, negℤ, natAbs, _+ℤ_, _*ℤ_, _-ℤ_, *ℤ-comm, *ℤ-zero, zero-*ℤ, +ℤ-idl, +ℤ-idr, +ℤ-comm, negℤ-+ℤ}
+use lib.IntN.{ℤ, pos, negℤ, natAbs, _+ℤ_, _*ℤ_, _-ℤ_, *ℤ-zero, zero-*ℤ, +ℤ-idl, +ℤ-idr, +ℤ-comm, negℤ-+ℤ}
 use lib.Signed.{_≤ℤ_, ≤ℤ-refl}
-use Rattle.integers.specs.Ring.{*ℤ-assoc, *ℤ-+ℤ, +ℤ-*ℤ}
+use Rattle.integers.specs.Ring.{*ℤ-+ℤ, +ℤ-*ℤ}
 use Rattle.integers.specs.Solver.{ring, form}
 use Rattle.integers.specs.Linear.{lin₀, stmt}
 use Rattle.integers.specs.Order.{+ℤ-mono, ≤-by, natAbs-+ℤ, natAbs-*ℤ, natAbs-plus}

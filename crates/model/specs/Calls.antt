@@ -10,12 +10,12 @@ use Rattle.model.specs.Records.{setOf, givenSet, setLength, hasIncurred}
 use Rattle.model.specs.Shares.{gList, bList, ultimates}
 use Rattle.model.specs.Delays.{delaysOf}
 use Rattle.model.specs.RowBases.{leftOvers}
-use Rattle.model.specs.Cells.{size, outputFrom}
+use Rattle.model.specs.Cells.{outputFrom}
 use Rattle.model.specs.PaidReserve.{NearReserves}
 use Rattle.model.specs.Calendar.{tallyOf, page, refusalText, firstLine, refusalOf}
 use Rattle.model.specs.ClaimCosts.{claimCosts, noClaimCosts}
 use Rattle.model.specs.BackTest.{cutTo, gap, cellNumber, errorByCell, errorByYear, errorInAll}
-use Rattle.model.specs.Questions.{Question, firstNo, ofFile, ofShares, ofDelays, ofForecast, q1, q4, q5Writer, q6, q7, q7Writer, q8}
+use Rattle.model.specs.Questions.{firstNo, ofFile, ofShares, ofDelays, ofForecast, q1, q4, q5Writer, q6, q7, q7Writer, q8}
 use Rattle.model.specs.declared.TriangleSet.{TriangleSet}
 use Rattle.model.specs.declared.ReadAnswer.{ReadAnswer}
 use Rattle.model.specs.declared.SharesAnswer.{SharesAnswer}

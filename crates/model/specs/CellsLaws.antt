@@ -1,7 +1,7 @@
 -- Laws of Cells: where a cell stands in the output. Assumes nothing.
-use mathlib.Core.Path.{_≡_, refl, sym, _∙_, ap}
-use mathlib.Core.List.{List, _++_}
-use Prim.Native.Nat.{ℕ, suc, _+_, _-_, _*_, _/_, _%_, _≤_, _<_}
+use mathlib.Core.Path.{_≡_, _∙_}
+use mathlib.Core.List.{List}
+use Prim.Native.Nat.{ℕ, _+_, _-_, _*_, _/_, _%_, _≤_, _<_}
 use native.Mathlib.Nat.{mul-assoc}
 use native.Mathlib.Omega.{arith}
 use lib.Arith.{digits-div, digits-mod, digits-lt}
@@ -9,7 +9,7 @@ use lib.IntN.{ℤ, pos}
 use lib.ListN.{drop, List·getD-append}
 use Rattle.model.specs.Lists.{at}
 use Rattle.model.specs.ListsLaws.{length-tabulate, getD-tabulate}
-use Rattle.model.specs.Cells.{placeOf, yearOf, delayOf, size, rbns, ibnr, entry, entries, outputFrom}
+use Rattle.model.specs.Cells.{placeOf, size, rbns, ibnr, entry, entries, outputFrom}
 use Rattle.model.specs.declared.TriangleSet.{TriangleSet}
 
 -- the year and the delay of cell n = (i - 1) × (2m - 1) + j

@@ -1,11 +1,11 @@
 -- Document 01, "Examples from a small shelf": one table, held to the definitions of the calls by computation.
 use Prim.Native.Nat.{ℕ, zero, suc, _+_, _*_, _-_, _/_, _%_, _^_}
 use mathlib.Core.Path.{_≡_, refl}
-use mathlib.Core.Bool.{Bool, true, false, _&&_, cond}
+use mathlib.Core.Bool.{Bool, true, false, _&&_}
 use mathlib.Core.List.{List, [], _∷_, _++_}
 use lib.Dec.{T, eqb}
 use lib.IntN.{ℤ, pos, negsuc, negℤ, _+ℤ_}
-use lib.ListN.{length, getD, drop, replicate}
+use lib.ListN.{replicate}
 use Rattle.integers.specs.Sums.{sum}
 use Rattle.model.specs.Lists.{tabulate, listed, at, every, total, count}
 use Rattle.model.specs.Records.{triangle, sparesZero, leastFirst, signed, valueAt, isOf, copies, valueOf, hasIncurred, setOf, givenSet, inRange}

@@ -71,10 +71,6 @@ set-tabulate (suc n) (suc i) f g h o =
 
 -- ---- lists filled from the front
 
-pub length-listed : {A : Type 0} (n m : ℕ) (f : ℕ → A) (d : A) → length (listed n m f d) ≡ n
-unfolding listed
-length-listed n m f d = length-tabulate n (λ k. cond (ltb k m) (f k) d)
-
 -- an entry, and a place past the last one
 pub getD-listed : {A : Type 0} (n m : ℕ) (f : ℕ → A) (d : A) (k : ℕ) (x : A) → k < n → k < m → getD (listed n m f d) k x ≡ f k
 unfolding listed

@@ -5,7 +5,7 @@ use Prim.Native.Nat.{ℕ, _≤_}
 use native.Mathlib.Omega.{arith}
 use lib.IntN.{ℤ, pos, _+ℤ_}
 use Rattle.integers.specs.Parts.{_⩽_, _⋖_}
-use Rattle.integers.specs.Sums.{sum, sum-cong}
+use Rattle.integers.specs.Sums.{sum-cong}
 use Rattle.model.specs.Lists.{at}
 use Rattle.model.specs.Rounding.{S}
 use Rattle.model.specs.Shares as Shares

@@ -1,11 +1,10 @@
 -- Shares rounded at each step against shares that are never rounded, for a sound triangle. Assumes nothing.
-use mathlib.Core.Path.{_≡_, sym}
+use mathlib.Core.Path.{sym}
 use mathlib.Core.List.{List, [], _∷_}
-use Prim.Native.Nat.{ℕ, zero, suc, _+_, _-_, _≤_, _<_}
+use Prim.Native.Nat.{ℕ, zero, suc, _-_, _<_}
 use native.Mathlib.Numerals.{add-one}
 use native.Mathlib.Omega.{arith}
 use lib.IntN.{ℤ, pos, _+ℤ_, _*ℤ_, _-ℤ_}
-use lib.Signed.{≤ℤ-refl}
 use Rattle.integers.specs.Parts.{_⩽_, _⋖_, ints}
 use Rattle.integers.specs.Ring.{*ℤ-one′}
 use Rattle.integers.specs.Solver.{ring, form}
@@ -17,7 +16,7 @@ use Rattle.model.specs.Rounding.{S, r}
 use Rattle.model.specs.Shares.{A, B, gDown, g}
 use Rattle.model.specs.PaidReserve.{Fraction, whole, times, GDown, G}
 use Rattle.arithmetic.specs.RoundingLaws.{r-near}
-use Rattle.chain_ladder.specs.SharesLaws.{S-pos, Sound, A-pos, A-B, g-range}
+use Rattle.chain_ladder.specs.SharesLaws.{S-pos, Sound, A-pos, A-B}
 
 -- n steps down from S: x is the rounded share, e the unrounded one
 pub record Apart (n : ℕ) (x : ℤ) (e : Fraction) : Type 0 where

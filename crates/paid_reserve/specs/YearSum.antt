@@ -8,7 +8,7 @@ use native.Mathlib.Omega.{arith}
 use borrow.Author.Tests.{leb-true, leb-false, le-leb, lt-leb, le-ltb, lt-ltb}
 use lib.Dec.{leb, ltb}
 use lib.IntN.{ℤ, pos, _+ℤ_, _*ℤ_, _-ℤ_, +ℤ-idl, +ℤ-idr}
-use Rattle.integers.specs.Parts.{_⩽_, _⋖_}
+use Rattle.integers.specs.Parts.{_⋖_}
 use Rattle.integers.specs.Solver.{ring, form}
 use Rattle.integers.specs.Order.{≤ℤ-of-≡, *ℤ-pos}
 use Rattle.integers.specs.Absolute.{∣_∣, Half, by-half, half-is, half-≤, half-+, half-*, half-sum}

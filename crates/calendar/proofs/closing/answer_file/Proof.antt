@@ -5,10 +5,9 @@ use Prim.Native.Nat.{ℕ, _≤_}
 use native.Mathlib.Nat.{le-trans}
 use native.Mathlib.Omega.{arith}
 use denote.Ref.{now}
-use lib.IntN.{ℤ, pos}
-use lib.ListN.{length}
+use lib.IntN.{ℤ}
 use Rattle.model.specs.Cells.{size}
-use Rattle.model.specs.Calendar.{tallyOf, page, refusalText}
+use Rattle.model.specs.Calendar.{tallyOf, page}
 use Rattle.model.specs.Calls.{zeros, forecastRefusal, forecastAnswer, forecastOutput}
 use Rattle.model.specs.declared.ForecastAnswer.{ForecastAnswer}
 use Rattle.forecast.specs.SmallEntries.{file-small}

@@ -1,7 +1,6 @@
 -- `calendar::closing::respond` meets its contract: the answer goes to a text of its own, and from there to the output where that has room. Assumes nothing.
 use mathlib.Core.Path.{sym, subst}
 use Prim.Native.Nat.{ℕ, _<_}
-use native.Mathlib.Omega.{arith}
 use denote.Ref.{now}
 use lib.ListN.{length}
 use Rattle.model.specs.Calls.{closingText}

@@ -1,9 +1,9 @@
 -- `cells::bases::left_over` meets its contract. Assumes nothing.
-use mathlib.Core.Path.{_≡_, sym, _∙_, ap}
+use mathlib.Core.Path.{sym, ap}
 use native.Mathlib.Omega.{arith}
-use lib.IntN.{ℤ, _-ℤ_}
+use lib.IntN.{_-ℤ_}
 use mir.Syntax.{w64}
-use mir.Val.{SFits, toZ, ofZ}
+use mir.Val.{SFits, ofZ}
 use mir.Facts.{toZ-ofZ}
 use Rattle.arithmetic.proofs.Words.{fits-abs}
 use Rattle.cells.proofs.Words.{equal-words}

@@ -1,6 +1,6 @@
 -- `cells::bases::left_overs` meets its contract. The loop's invariant: the left overs of the first k years are in their places.
 -- Assumes nothing.
-use mathlib.Core.Path.{_≡_, sym, _∙_, ap}
+use mathlib.Core.Path.{_≡_, sym}
 use Prim.Native.Nat.{_-_, _≤_}
 use native.Mathlib.Omega.{arith}
 use lib.IntN.{pos}

@@ -1,13 +1,13 @@
 -- `cells::bases::row_base` meets its contract. Assumes nothing.
-use mathlib.Core.Path.{_≡_, sym, _∙_, ap}
+use mathlib.Core.Path.{sym, _∙_, ap}
 use Prim.Native.Nat.{_*_, _^_}
 use native.Mathlib.Omega.{arith}
-use lib.IntN.{ℤ, pos, _-ℤ_}
+use lib.IntN.{pos, _-ℤ_}
 use mir.Syntax.{w64}
-use mir.Val.{SFits, toZ, ofZ}
+use mir.Val.{SFits, ofZ}
 use mir.Facts.{toZ-ofZ}
 use Rattle.integers.specs.Parts.{_⋖_}
-use Rattle.arithmetic.specs.Capped.{capped, capped-within}
+use Rattle.arithmetic.specs.Capped.{capped-within}
 use Rattle.arithmetic.proofs.Words.{fits-abs}
 use Rattle.cells.proofs.Words.{equal-words}
 use Rattle.cells.specs.BasesLaws.{base-paid, base-incurred, base-settled, base-open, incurred-small, reserve-small, reserve-pos}

@@ -1,7 +1,6 @@
 -- `cells::weights::weights` meets its contract. Assumes nothing.
 use borrow.Author.Needs.{needs}
 use borrow.Author.Tests.{eq-eqb, ne-eqb}
-use mathlib.Core.Path.{_≡_}
 use mir.Facts.{toZ-ofZ}
 use Rattle.cells.specs.Weights.{weightsFrom}
 use Rattle.cells.proofs.weights.weights.Statement.{statement}

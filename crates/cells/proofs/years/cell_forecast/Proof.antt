@@ -1,22 +1,21 @@
 -- `cells::years::cell_forecast` meets its contract. The loop's invariant: the entries of the first n years are written, and the sums are those of the reporting
 -- delays that year n + 1 has not reported.
 -- Assumes nothing.
-use mathlib.Core.Path.{_≡_, refl, sym, _∙_, ap, ap₂}
+use mathlib.Core.Path.{_≡_, sym, _∙_, ap}
 use mathlib.Core.List.{List}
-use Prim.Native.Nat.{ℕ, _+_, _-_, _*_, _^_, _≤_, _<_}
+use Prim.Native.Nat.{ℕ, _+_, _-_, _*_, _≤_, _<_}
 use native.Mathlib.Nat.{mul-le-mul-right}
 use native.Mathlib.Omega.{arith}
-use lib.IntN.{ℤ, pos, natAbs}
+use lib.IntN.{ℤ}
 use lib.ListN.{length}
 use mir.Syntax.{w64}
-use mir.Val.{SFits, toZ, ofZ}
+use mir.Val.{toZ, ofZ}
 use mir.Facts.{toZ-ofZ}
 use Rattle.model.specs.Lists.{at}
-use Rattle.model.specs.Cells.{size}
 use Rattle.model.specs.Overlay.{overlay, overlay-none, overlay-more, length-overlay}
 use Rattle.cells.specs.CellOf.{sumsFrom, yearEntries, yearsEntries}
 use Rattle.cells.specs.DelaysLaws.{no-sums, sums-fit}
-use Rattle.cells.specs.Ready.{Ready, yearWeights}
+use Rattle.cells.specs.Ready.{yearWeights}
 use Rattle.cells.specs.ReadyLaws.{g-small, latest-pos, latest-small, counts-small, year-weights, shares-fit}
 use Rattle.cells.specs.YearsLaws.{year-inside, all-inside, no-years, length-years, one-more-year}
 use Rattle.cells.proofs.years.cell_forecast.Statement.{statement}

@@ -1,7 +1,5 @@
 -- `forecast::method::incurred_under` meets its contract. Assumes nothing.
-use mathlib.Core.Path.{_≡_, sym, _∙_}
 use borrow.Author.Tests.{ne-eqb}
-use denote.Ref.{now}
 use Rattle.forecast.specs.Method.{incurredUnder}
 use Rattle.forecast.proofs.method.incurred_under.Statement.{statement}
 use Rattle.forecast.proofs.method.incurred_under.Tie as tie

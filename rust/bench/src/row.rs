@@ -28,16 +28,19 @@ pub struct Row {
 pub fn rows() -> Result<Vec<Row>, String> {
     let program = env::current_exe().map_err(|error| error.to_string())?;
     let counted = instructions(&program)?;
-    let timed = cases().into_iter().zip(counted).map(|(mut case, counted)| {
+    let mut cases = cases();
+    let timed = times(&mut cases);
+    let rows = cases.into_iter().zip(counted).zip(timed);
+    let rows = rows.map(|((case, counted), nanoseconds)| {
         assert_eq!((&case.call, case.m), (&counted.call, counted.m));
         Row {
-            nanoseconds: times(&mut case),
             call: case.call,
             m: case.m,
             instructions: counted.counts,
+            nanoseconds,
         }
     });
-    Ok(timed.collect())
+    Ok(rows.collect())
 }
 
 /// The proved call's over the plain one's.

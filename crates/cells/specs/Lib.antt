@@ -6,7 +6,7 @@ pub mod Weights
 pub mod WeightsLaws
 pub mod PairLaws
 pub mod CellOf
-pub mod DelaysLaws
+pub mod SumsFromLaws
 pub mod EntryLaws
 pub mod YearsLaws
 pub mod Ready

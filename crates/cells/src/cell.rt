@@ -52,29 +52,29 @@ pub struct Cell {
     pub ibnr: i64,
 }
 
-// The cell of year i and delay j: v is the row base, s weighs the reported claims, p holds the delays, and u the sums over the claims that are not
-// reported. A known cell is 0.
+// The cell of year i and delay j: v is the row base, s weighs the reported claims, p holds the delays, and `unreported` the sums over the
+// claims that are not reported. A known cell is 0.
 fn one_cell(
     v: i64,
     s: &[i64; 20],
     p: &[i64; 20],
-    u: &[i64; 39],
+    unreported: &[i64; 39],
     m: usize,
     i: usize,
     j: usize,
 ) -> Cell
     requires { ⌜ (1 ≤ i) × (i ≤ m) × (m ≤ 20) × (j < 39) × (natAbs v ≤ 2 * 10 ^ 14) ⌝ }
-    requires { ⌜ Weights (now s) × Delays (now p) × Summed (now u) ⌝ }
-    ensures { λ r. ⌜ r ≡ cellOf m v (now (s .entry)) (now (p .entry)) (now (u .entry)) i j ⌝ }
+    requires { ⌜ Weights (now s) × Delays (now p) × Summed (now unreported) ⌝ }
+    ensures { λ r. ⌜ r ≡ cellOf m v (now (s .entry)) (now (p .entry)) (now (unreported .entry)) i j ⌝ }
 {
     if i + j <= m {
         return Cell { rbns: 0, ibnr: 0 };
     }
     let reported = pair_sum(s, p, m, j, m - i);
-    let unreported = u[j];
+    let later = unreported[j];
     Cell {
         rbns: arithmetic::scale_cell(v, reported),
-        ibnr: arithmetic::scale_cell(v, unreported),
+        ibnr: arithmetic::scale_cell(v, later),
     }
 }
 
@@ -85,17 +85,17 @@ pub fn write_year(
     v: i64,
     s: &[i64; 20],
     p: &[i64; 20],
-    u: &[i64; 39],
+    unreported: &[i64; 39],
     m: usize,
     i: usize,
 )
     requires { ⌜ (1 ≤ i) × (i ≤ m) × (m ≤ 20) × (natAbs v ≤ 2 * 10 ^ 14) × (from + 2 * (2 * m - 1) ≤ length (now out)) ⌝ }
-    requires { ⌜ Weights (now s) × Delays (now p) × Summed (now u) ⌝ }
-    ensures { λ _. ⌜ now (out .exit) ≡ overlay (now (out .entry)) from (yearEntries m v (now (s .entry)) (now (p .entry)) (now (u .entry)) i) ⌝ }
+    requires { ⌜ Weights (now s) × Delays (now p) × Summed (now unreported) ⌝ }
+    ensures { λ _. ⌜ now (out .exit) ≡ overlay (now (out .entry)) from (yearEntries m v (now (s .entry)) (now (p .entry)) (now (unreported .entry)) i) ⌝ }
 {
     let mut j = 0;
     while j < 2 * m - 1 {
-        let cell = one_cell(v, s, p, u, m, i, j);
+        let cell = one_cell(v, s, p, unreported, m, i, j);
         let rbns = cell.rbns;
         let ibnr = cell.ibnr;
         out[from + 2 * j] = rbns;

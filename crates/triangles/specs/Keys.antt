@@ -30,7 +30,7 @@ abbrev pub Distinct : List ℕ → ℕ → Type 0
 Distinct f n = (q : ℕ) → q < 1200 → keyCount f n q ≤ 1
 
 -- whether no key stands twice among the first n records; where none does, whether their values are in range, and the value of each key
-pub record ByKey (f : List ℕ) (n : ℕ) (once inRange : Bool) (values : List ℤ) : Type 0 where
+pub record ByKey (f : List ℕ) (n : ℕ) (once ok : Bool) (values : List ℤ) : Type 0 where
   pub onceIs : once ≡ every 1200 (λ q. leb (keyCount f n q) 1)
-  pub rangedIs : once ≡ true → inRange ≡ every n (ranged f)
+  pub rangedIs : once ≡ true → ok ≡ every n (ranged f)
   pub valuesAre : once ≡ true → (q : ℕ) → q < 1200 → at values q ≡ keySum f n q

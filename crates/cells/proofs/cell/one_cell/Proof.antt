@@ -17,7 +17,7 @@ use Rattle.cells.proofs.cell.one_cell.Statement.{statement}
 use Rattle.cells.proofs.cell.one_cell.Tie as tie
 
 -- the two sums and their sizes
-module _ (c : tie.After-unreported) where
+module _ (c : tie.After-later) where
   abbrev s : tie.Start
   s = c .before .before .before
 
@@ -29,8 +29,8 @@ module _ (c : tie.After-unreported) where
   reported-back : toZ w64 (ofZ w64 (c .before .pair-sum .result)) ≡ c .before .pair-sum .result
   reported-back = toZ-ofZ (record { sfits = c .before .pair-sum .ok })
 
-  unreported-back : toZ w64 (ofZ w64 (at (s .args .u .now) (s .args .j))) ≡ at (s .args .u .now) (s .args .j)
-  unreported-back = toZ-ofZ (record { sfits = c .unreported .given })
+  unreported-back : toZ w64 (ofZ w64 (at (s .args .unreported .now) (s .args .j))) ≡ at (s .args .unreported .now) (s .args .j)
+  unreported-back = toZ-ofZ (record { sfits = c .later .given })
 
 add-if1 : tie.Need-add-if1
 add-if1 c = search needs
@@ -47,11 +47,11 @@ sub-pair-sum c = search needs
 pair-sum-requires : tie.Need-pair-sum-requires
 pair-sum-requires c κs = search needs
 
-mul-unreported : tie.Need-mul-unreported
-mul-unreported c = search needs
+mul-later : tie.Need-mul-later
+mul-later c = search needs
 
-element-copy-out-unreported : tie.Need-element-copy-out-unreported
-element-copy-out-unreported c = search needs
+element-copy-out-later : tie.Need-element-copy-out-later
+element-copy-out-later c = search needs
 
 scale-cell-requires : tie.Need-scale-cell-requires
 scale-cell-requires c κs = rw (toZ-ofZ (s c .fits .v), reported-back c) (s c .pre .0 .4, reported-small c)
@@ -79,8 +79,8 @@ one-cell-spec =
     returns
     sub-pair-sum
     pair-sum-requires
-    mul-unreported
-    element-copy-out-unreported
+    mul-later
+    element-copy-out-later
     scale-cell-requires
     scale-cell-requires-2
     returns-2)

@@ -28,10 +28,10 @@ module _ (l : tie.At-loop Inv-loop μ-loop) where
   a = l .before
 
   abbrev entries : ℕ → List ℤ
-  entries n = firstEntries (a .args .m) (a .args .v) (a .args .s .now) (a .args .p .now) (a .args .u .now) (a .args .i) n
+  entries n = firstEntries (a .args .m) (a .args .v) (a .args .s .now) (a .args .p .now) (a .args .unreported .now) (a .args .i) n
 
   long : (n : ℕ) → length (entries n) ≡ n
-  long n = length-entries (a .args .m) (a .args .v) (a .args .s .now) (a .args .p .now) (a .args .u .now) (a .args .i) n
+  long n = length-entries (a .args .m) (a .args .v) (a .args .s .now) (a .args .p .now) (a .args .unreported .now) (a .args .i) n
 
   so-far : l .loop .out ≡ overlay (a .args .out .now) (a .args .from) (entries (2 * l .loop .j))
   so-far = rw (toZ-ofZ (a .fits .v)) at (l .loop .inv .1)
@@ -51,7 +51,7 @@ module _ (c : tie.After-struct-told2 Inv-loop μ-loop) where
 
 loop-holds : tie.Need-loop-holds Inv-loop μ-loop
 loop-holds c =
-    (omega arith, sym (rw (no-entries (c .args .m) (toZ w64 (ofZ w64 (c .args .v))) (c .args .s .now) (c .args .p .now) (c .args .u .now) (c .args .i)) (overlay-none (c .args .out .now) (c .args .from))))
+    (omega arith, sym (rw (no-entries (c .args .m) (toZ w64 (ofZ w64 (c .args .v))) (c .args .s .now) (c .args .p .now) (c .args .unreported .now) (c .args .i)) (overlay-none (c .args .out .now) (c .args .from))))
 
 mul-loop : tie.Need-mul-loop Inv-loop μ-loop
 mul-loop c = omega arith
@@ -104,12 +104,12 @@ loop-again c =
     let at = a .from + 2 * j in
     let v = toZ-ofZ (l c .before .fits .v) in
     let e = rw v at (c .before .before .one-cell .ensures) in
-    let cell = cellOf (a .m) (a .v) (a .s .now) (a .p .now) (a .u .now) (a .i) j in (
+    let cell = cellOf (a .m) (a .v) (a .s .now) (a .p .now) (a .unreported .now) (a .i) j in (
       omega arith,
       ap₂ (λ (x y : ℤ). set (set (l c .loop .out) at x) (at + 1) y) (rbns-back c ∙ ap (λ (x : Cell). x .rbns) e) (ibnr-back c ∙ ap (λ (x : Cell). x .ibnr) e)
           ∙ ap (λ (o : List ℤ). set (set o at (cell .rbns)) (at + 1) (cell .ibnr)) (so-far (l c))
-          ∙ two-stored (a .m) (a .v) (a .s .now) (a .p .now) (a .u .now) (a .i) (a .out .now) (a .from) j (omega arith)
-          ∙ ap (λ (z : ℤ). overlay (a .out .now) (a .from) (firstEntries (a .m) z (a .s .now) (a .p .now) (a .u .now) (a .i) (2 * (j + 1)))) (sym v),
+          ∙ two-stored (a .m) (a .v) (a .s .now) (a .p .now) (a .unreported .now) (a .i) (a .out .now) (a .from) j (omega arith)
+          ∙ ap (λ (z : ℤ). overlay (a .out .now) (a .from) (firstEntries (a .m) z (a .s .now) (a .p .now) (a .unreported .now) (a .i) (2 * (j + 1)))) (sym v),
     )
 
 same-length : tie.Need-same-length Inv-loop μ-loop

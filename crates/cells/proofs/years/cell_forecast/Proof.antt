@@ -14,7 +14,7 @@ use mir.Facts.{toZ-ofZ}
 use Rattle.model.specs.Lists.{at}
 use Rattle.model.specs.Overlay.{overlay, overlay-none, overlay-more, length-overlay}
 use Rattle.cells.specs.CellOf.{sumsFrom, yearEntries, yearsEntries}
-use Rattle.cells.specs.DelaysLaws.{no-sums, sums-fit}
+use Rattle.cells.specs.SumsFromLaws.{no-sums, sums-fit}
 use Rattle.cells.specs.Ready.{yearWeights}
 use Rattle.cells.specs.ReadyLaws.{g-small, latest-pos, latest-small, counts-small, year-weights, shares-fit}
 use Rattle.cells.specs.YearsLaws.{year-inside, all-inside, no-years, length-years, one-more-year}

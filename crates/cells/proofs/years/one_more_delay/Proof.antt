@@ -15,7 +15,7 @@ use Rattle.integers.specs.Order.{natAbs-*ℤ}
 use Rattle.arithmetic.proofs.Words.{fits-abs}
 use Rattle.model.specs.Lists.{at}
 use Rattle.cells.specs.PairLaws.{weight-small, pairs-small}
-use Rattle.cells.specs.DelaysLaws.{partly, start, added, next, all}
+use Rattle.cells.specs.SumsFromLaws.{partly, start, added, next, all}
 use Rattle.cells.proofs.years.one_more_delay.Statement.{statement}
 use Rattle.cells.proofs.years.one_more_delay.Tie as tie
 

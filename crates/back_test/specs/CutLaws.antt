@@ -31,8 +31,8 @@ module _ (m n : ℕ) (s : TriangleSet) (valid : Valid m s) (least : 2 ≤ n) (le
       let f = few m s valid in
       eachCell-all n _ (λ i j a b. rw (cell-triangle n (cell x) i j (omega arith) a b) (eachCell-at m (λ i j. inRange t (cell x i j)) h i j a (omega arith)))
 
-  or-in : (three : Bool) (x y : Bool) → (not three || x) ≡ true → (x ≡ true → y ≡ true) → (not three || y) ≡ true
-  or-in three x y h f = by-test three (λ e. rw e (f (rw e at h))) (λ e. rw e)
+  or-in : (asked x y : Bool) → (not asked || x) ≡ true → (x ≡ true → y ≡ true) → (not asked || y) ≡ true
+  or-in asked x y h f = by-test asked (λ e. rw e (f (rw e at h))) (λ e. rw e)
 
   pub cut-valid : Valid n (cutTo n s)
   unfolding q1 q5Writer cutTo
@@ -44,5 +44,5 @@ module _ (m n : ℕ) (s : TriangleSet) (valid : Valid m s) (least : 2 ≤ n) (le
       let f = few m s valid in
       record {
         size = rw (le-leb 2 n least, le-leb n 20 (omega arith));
-        values = rw (cut-in 0 (s .counts) c, cut-in 1 (s .paid) p) (or-in (s .three) _ _ i (cut-in 2 (s .incurred)));
+        values = rw (cut-in 0 (s .counts) c, cut-in 1 (s .paid) p) (or-in (s .«has_incurred») _ _ i (cut-in 2 (s .incurred)));
       }

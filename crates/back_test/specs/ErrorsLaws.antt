@@ -12,7 +12,7 @@ use lib.IntN.{ℤ, pos, natAbs, _+ℤ_, +ℤ-idl, +ℤ-idr}
 use Rattle.integers.specs.Sums.{sum, sum-suc, sum-cong, sum-nothing, sum-natAbs}
 use Rattle.model.specs.Lists.{total}
 use Rattle.model.specs.Records.{cell}
-use Rattle.model.specs.BackTest.{errorByCell, yearGap, errorByYear, errorInAll}
+use Rattle.model.specs.BackTest.{cellwise, yearGap, yearwise, overall}
 use Rattle.model.specs.Tests.{by-test}
 use Rattle.back_test.specs.Gaps.{SmallGaps, rowInYear}
 
@@ -103,15 +103,15 @@ module _ (d : List ℤ) (small : SmallGaps d) (n : ℕ) (few : n ≤ 20) where
 
 -- ---- gaps that agree in the n × n cells have the same errors
 module _ (n : ℕ) (d e : ℕ → ℕ → ℤ) (same : (k j : ℕ) → k < n → j < n → d (suc k) j ≡ e (suc k) j) where
-  pub same-by-cell : errorByCell n d ≡ errorByCell n e
-  unfolding errorByCell
+  pub same-by-cell : cellwise n d ≡ cellwise n e
+  unfolding cellwise
   same-by-cell = total-ext n _ _ (λ k h. total-ext n _ _ (λ j l. ap natAbs (same k j h l)))
 
-  pub same-by-year : (c : ℕ) → errorByYear n c d ≡ errorByYear n c e
-  unfolding errorByYear yearGap
+  pub same-by-year : (c : ℕ) → yearwise n c d ≡ yearwise n c e
+  unfolding yearwise yearGap
   same-by-year c =
       total-ext c _ _ (λ t b. ap natAbs (sum-cong n (λ k h. sum-cong n (λ j l. ap (λ (x : ℤ). cond (eqb (suc k + j) (n + suc t)) x (pos 0)) (same k j h l)))))
 
-  pub same-in-all : errorInAll n d ≡ errorInAll n e
-  unfolding errorInAll
+  pub same-in-all : overall n d ≡ overall n e
+  unfolding overall
   same-in-all = ap natAbs (sum-cong n (λ k h. sum-cong n (λ j l. same k j h l)))

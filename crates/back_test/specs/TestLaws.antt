@@ -11,7 +11,7 @@ use lib.ListN.{length}
 use Rattle.model.specs.Records.{cell, setOf, hasIncurred}
 use Rattle.model.specs.Delays.{delaysOf}
 use Rattle.model.specs.Cells.{size, outputFrom}
-use Rattle.model.specs.BackTest.{cutTo, gap, cellNumber, errorByCell, errorByYear, errorInAll}
+use Rattle.model.specs.BackTest.{cutTo, gap, cellNumber, cellwise, yearwise, overall}
 use Rattle.model.specs.Questions.{Question, q6, q8, firstNo, ofFile, ofForecast}
 use Rattle.model.specs.QuestionsLaws.{yes-first, no-first}
 use Rattle.model.specs.Calls.{zeros, readRefusal, backTestRefusal, backTestOf, backTestAnswer}
@@ -38,14 +38,14 @@ module _ (m : ℕ) (s : TriangleSet) (c method basis : ℕ) where
   unfolding setTest
   test-no k o e = rw (e, ne-eqb k 0 o)
 
-  module _ (valid : Valid m s) (six : q6 (s .three) method basis ≡ true) (some : 1 ≤ c) (most : c + 2 ≤ m) where
+  module _ (valid : Valid m s) (six : q6 (s .«has_incurred») method basis ≡ true) (some : 1 ≤ c) (most : c + 2 ≤ m) where
     pub sizes : (2 ≤ n) × (n ≤ 20) × (c ≤ 20)
     sizes = let f = few m s valid in (omega arith, omega arith, omega arith)
 
     pub known-valid : Valid n known
     known-valid = CutLaws.cut-valid m n s valid (sizes .0) (omega arith)
 
-    pub known-six : q6 (known .three) method basis ≡ true
+    pub known-six : q6 (known .«has_incurred») method basis ≡ true
     unfolding cutTo
     known-six = six
 
@@ -79,9 +79,9 @@ module _ (m : ℕ) (s : TriangleSet) (c method basis : ℕ) where
           gaps-at m n out (s .paid) k j (omega (arith, sizes .1)) (omega (arith, sizes .1))
           ∙ rw written (gap-is m n s (delaysOf n known) method basis (zeros 1560) (suc k) j (sizes .0) (sizes .1) (omega arith))
 
-      pub test-yes : {d : List ℤ} {cells cellwise yearwise overall : ℕ} → d ≡ gaps m n out (s .paid) → cells ≡ cellNumber c n
-          → cellwise ≡ errorByCell n (cell d) → yearwise ≡ errorByYear n c (cell d) → overall ≡ errorInAll n (cell d)
-          → record { refusal = 0; cells = cells; cellwise = cellwise; yearwise = yearwise; overall = overall } ≡ setTest m s c method basis
+      pub test-yes : {d : List ℤ} {k x y z : ℕ} → d ≡ gaps m n out (s .paid) → k ≡ cellNumber c n
+          → x ≡ cellwise n (cell d) → y ≡ yearwise n c (cell d) → z ≡ overall n (cell d)
+          → record { refusal = 0; cells = k; cellwise = x; yearwise = y; overall = z } ≡ setTest m s c method basis
       unfolding setTest backTestOf
       test-yes d-is a b y t = rw (a, b, y, t, d-is, same-by-cell n made meant same, same-by-year n made meant same c, same-in-all n made meant same, accepted)
 

@@ -38,7 +38,7 @@ pub fn cut(set: TriangleSet, n: usize) -> TriangleSet
     ensures { λ r. ⌜ r ≡ cutTo n set ⌝ }
 {
     TriangleSet {
-        three: set.three,
+        has_incurred: set.has_incurred,
         counts: cut_triangle(&set.counts, n),
         paid: cut_triangle(&set.paid, n),
         incurred: cut_triangle(&set.incurred, n),

@@ -5,7 +5,7 @@ ghost use lib.IntN.{natAbs};
 ghost use Rattle.integers.specs.Sums.{sum};
 ghost use Rattle.model.specs.Lists.{total};
 ghost use Rattle.model.specs.Records.{cell};
-ghost use Rattle.model.specs.BackTest.{cellNumber, errorByCell, yearGap, errorByYear, errorInAll};
+ghost use Rattle.model.specs.BackTest.{cellNumber, cellwise, yearGap, yearwise, overall};
 ghost use Rattle.back_test.specs.Gaps.{SmallGaps, rowInYear};
 
 fn smaller(a: usize, b: usize) -> usize
@@ -49,9 +49,9 @@ fn row_error(d: &[i64; 400], n: usize, k: usize) -> u64
 }
 
 // The sum of absolute errors by cell.
-pub fn error_by_cell(d: &[i64; 400], n: usize) -> u64
+pub fn cellwise(d: &[i64; 400], n: usize) -> u64
     requires { ⌜ SmallGaps (now d) × (n ≤ 20) ⌝ }
-    ensures { λ r. ⌜ r ≡ errorByCell n (cell (now (d .entry))) ⌝ }
+    ensures { λ r. ⌜ r ≡ cellwise n (cell (now (d .entry))) ⌝ }
 {
     let mut out = 0u64;
     let mut k = 0;
@@ -94,9 +94,9 @@ fn year_gap(d: &[i64; 400], n: usize, t: usize) -> i64
 }
 
 // The sum of absolute errors by calendar year, years 1 to c.
-pub fn error_by_year(d: &[i64; 400], n: usize, c: usize) -> u64
+pub fn yearwise(d: &[i64; 400], n: usize, c: usize) -> u64
     requires { ⌜ SmallGaps (now d) × (n ≤ 20) × (c ≤ 20) ⌝ }
-    ensures { λ r. ⌜ r ≡ errorByYear n c (cell (now (d .entry))) ⌝ }
+    ensures { λ r. ⌜ r ≡ yearwise n c (cell (now (d .entry))) ⌝ }
 {
     let mut out = 0u64;
     let mut k = 0;
@@ -125,9 +125,9 @@ fn row_gap(d: &[i64; 400], n: usize, k: usize) -> i64
 }
 
 // The absolute error of the total.
-pub fn error_in_all(d: &[i64; 400], n: usize) -> u64
+pub fn overall(d: &[i64; 400], n: usize) -> u64
     requires { ⌜ SmallGaps (now d) × (n ≤ 20) ⌝ }
-    ensures { λ r. ⌜ r ≡ errorInAll n (cell (now (d .entry))) ⌝ }
+    ensures { λ r. ⌜ r ≡ overall n (cell (now (d .entry))) ⌝ }
 {
     let mut out = 0i64;
     let mut k = 0;

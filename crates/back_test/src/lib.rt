@@ -5,9 +5,9 @@ mod gaps;
 
 use cut::cut;
 use errors::cell_number;
-use errors::error_by_cell;
-use errors::error_by_year;
-use errors::error_in_all;
+use errors::cellwise;
+use errors::yearwise;
+use errors::overall;
 use gaps::gaps;
 use model::BackTestAnswer;
 use model::TriangleSet;
@@ -34,7 +34,7 @@ fn refused(number: u64) -> BackTestAnswer
 
 // Questions 9 to 14 of the cut set, and the back-test of a set.
 fn test_set(set: TriangleSet, m: usize, method: u64, basis: u64, c: usize) -> BackTestAnswer
-    requires { ⌜ Valid m set × (q6 (set .three) method basis ≡ true) × (1 ≤ c) × (c + 2 ≤ m) ⌝ }
+    requires { ⌜ Valid m set × (q6 (set .«has_incurred») method basis ≡ true) × (1 ≤ c) × (c + 2 ≤ m) ⌝ }
     ensures { λ r. ⌜ r ≡ setTest m set c method basis ⌝ }
 {
     let n = m - c;
@@ -46,9 +46,9 @@ fn test_set(set: TriangleSet, m: usize, method: u64, basis: u64, c: usize) -> Ba
     }
     let d = gaps(&entries, &set.paid, m, n);
     let cells = cell_number(c, n);
-    let cellwise = error_by_cell(&d, n);
-    let yearwise = error_by_year(&d, n, c);
-    let overall = error_in_all(&d, n);
+    let cellwise = cellwise(&d, n);
+    let yearwise = yearwise(&d, n, c);
+    let overall = overall(&d, n);
     BackTestAnswer {
         refusal: 0,
         cells,
@@ -66,7 +66,7 @@ pub fn back_test(file: &[u8], m: usize, method: u64, basis: u64, c: usize) -> Ba
     if read.refusal != 0 {
         return refused(read.refusal);
     }
-    if !forecast::method_known(read.set.three, method, basis) {
+    if !forecast::method_known(read.set.has_incurred, method, basis) {
         return refused(6);
     }
     if c < 1 {

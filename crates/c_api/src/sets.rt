@@ -3,18 +3,18 @@ ghost use mathlib.Core.Path.{_≡_};
 ghost use mathlib.Core.Bool.{cond};
 ghost use Rattle.model.specs.Calls.{ifAccepted, readAnswer, Wrote};
 
-// The reader: the set of a file goes to counts, paid and incurred, and three becomes 1 where incurred is there, else 0.
+// The reader: the set of a file goes to counts, paid and incurred, and has_incurred becomes 1 where incurred is there, else 0.
 #[no_mangle]
 pub extern "C" fn pardesul_read_set(
     file: &[u8],
     m: usize,
-    three: &mut u8,
+    has_incurred: &mut u8,
     counts: &mut [i64; 400],
     paid: &mut [i64; 400],
     incurred: &mut [i64; 400],
 ) -> u64
     ensures { λ r. ⌜ r ≡ readAnswer m (now (file .entry)) .refusal ⌝ }
-    ensures { λ r. ⌜ now (three .exit) ≡ ifAccepted r (cond (readAnswer m (now (file .entry)) .set .three) 1 0) (now (three .entry)) ⌝ }
+    ensures { λ r. ⌜ now («has_incurred» .exit) ≡ ifAccepted r (cond (readAnswer m (now (file .entry)) .set .«has_incurred») 1 0) (now («has_incurred» .entry)) ⌝ }
     ensures { λ r. ⌜ now (counts .exit) ≡ ifAccepted r (readAnswer m (now (file .entry)) .set .counts) (now (counts .entry)) ⌝ }
     ensures { λ r. ⌜ now (paid .exit) ≡ ifAccepted r (readAnswer m (now (file .entry)) .set .paid) (now (paid .entry)) ⌝ }
     ensures { λ r. ⌜ now (incurred .exit) ≡ ifAccepted r (readAnswer m (now (file .entry)) .set .incurred) (now (incurred .entry)) ⌝ }
@@ -30,7 +30,7 @@ pub extern "C" fn pardesul_read_set(
     *paid = cells;
     let cells = answer.set.incurred;
     *incurred = cells;
-    *three = answer.set.three as u8;
+    *has_incurred = answer.set.has_incurred as u8;
     0
 }
 
@@ -38,14 +38,14 @@ pub extern "C" fn pardesul_read_set(
 #[no_mangle]
 pub extern "C" fn pardesul_write_set(
     m: usize,
-    three: bool,
+    has_incurred: bool,
     counts: &[i64; 400],
     paid: &[i64; 400],
     incurred: &[i64; 400],
     out: &mut [u8],
 ) -> u64
     ensures { λ r.
-        ⌜ Wrote m three (now (counts .entry)) (now (paid .entry)) (now (incurred .entry)) (now (out .entry)) (now (out .exit)) r ⌝ }
+        ⌜ Wrote m «has_incurred» (now (counts .entry)) (now (paid .entry)) (now (incurred .entry)) (now (out .entry)) (now (out .exit)) r ⌝ }
 {
-    triangles::write_set(m, three, *counts, *paid, *incurred, out)
+    triangles::write_set(m, has_incurred, *counts, *paid, *incurred, out)
 }

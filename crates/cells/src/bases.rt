@@ -35,7 +35,7 @@ fn row_base(method: u64, u1: i64, w1: i64, u: i64, w: i64, c: i64) -> Capped
 }
 
 // The left over of a year.
-fn left_over(method: u64, u: i64, w: i64, c: i64) -> i64
+fn leftover(method: u64, u: i64, w: i64, c: i64) -> i64
     requires { ⌜ Year method u w c ⌝ }
     ensures { λ k. ⌜ k ≡ leftFrom method u w c ⌝ }
 {
@@ -69,14 +69,14 @@ pub fn row_bases(m: usize, method: u64, u: [i64; 20], c: [i64; 20], w: [i64; 20]
 }
 
 // The left overs of years 1 to m, year i at place i - 1.
-pub fn left_overs(m: usize, method: u64, u: [i64; 20], c: [i64; 20], w: [i64; 20]) -> [i64; 20]
+pub fn leftovers(m: usize, method: u64, u: [i64; 20], c: [i64; 20], w: [i64; 20]) -> [i64; 20]
     requires { ⌜ (m ≤ 20) × AllSizes m method u c w ⌝ }
     ensures { λ r. ⌜ r ≡ listed 20 m (leftAt m method u c w) (pos 0) ⌝ }
 {
     let mut out = [0i64; 20];
     let mut k = 0;
     while k < m {
-        out[k] = left_over(method, u[k], w[k], c[k]);
+        out[k] = leftover(method, u[k], w[k], c[k]);
         k += 1;
     }
     out

@@ -20,14 +20,14 @@ use Rattle.chain_ladder.specs.Sums.{Small}
 -- a set that the reader hands back: m is 2 to 20, and each cell is in its range
 pub record Valid (m : ℕ) (s : TriangleSet) : Type 0 where
   pub size : q1 m ≡ true
-  pub values : q5Writer m (s .three) (s .counts) (s .paid) (s .incurred) ≡ true
+  pub values : q5Writer m (s .«has_incurred») (s .counts) (s .paid) (s .incurred) ≡ true
 
 -- the set of two triangles that are lent, and that of incurred: `develop` and `incurred_ultimates` look at no other triangle
 abbrev pub countsAndPaid : List ℤ → List ℤ → TriangleSet
-countsAndPaid c p = record { three = false; counts = c; paid = p; incurred = zeros 400 }
+countsAndPaid c p = record { «has_incurred» = false; counts = c; paid = p; incurred = zeros 400 }
 
 abbrev pub incurredAlone : List ℤ → TriangleSet
-incurredAlone t = record { three = true; counts = zeros 400; paid = zeros 400; incurred = t }
+incurredAlone t = record { «has_incurred» = true; counts = zeros 400; paid = zeros 400; incurred = t }
 
 pub valid-pair : (m : ℕ) (s : TriangleSet) → Valid m s → Valid m (countsAndPaid (s .counts) (s .paid))
 unfolding q5Writer
@@ -67,11 +67,11 @@ module _ (m : ℕ) (s : TriangleSet) (valid : Valid m s) where
   unfolding q5Writer
   paid-in = eachCell-at m (λ i j. inRange 1 (cell (s .paid) i j)) (and-right (eachCell m (λ i j. inRange 0 (cell (s .counts) i j))) _ (and-left _ _ (valid .values)))
 
-  incurred-in : s .three ≡ true → (i j : ℕ) → 1 ≤ i → i + j ≤ m → inRange 2 (cell (s .incurred) i j) ≡ true
+  incurred-in : s .«has_incurred» ≡ true → (i j : ℕ) → 1 ≤ i → i + j ≤ m → inRange 2 (cell (s .incurred) i j) ≡ true
   unfolding q5Writer
-  incurred-in three =
+  incurred-in there =
       eachCell-at m (λ i j. inRange 2 (cell (s .incurred) i j))
-      (rw three at (and-right (eachCell m (λ i j. inRange 0 (cell (s .counts) i j)) && eachCell m (λ i j. inRange 1 (cell (s .paid) i j))) _ (valid .values)))
+      (rw there at (and-right (eachCell m (λ i j. inRange 0 (cell (s .counts) i j)) && eachCell m (λ i j. inRange 1 (cell (s .paid) i j))) _ (valid .values)))
 
   pub counts-nonneg : NotNegative m (s .counts)
   counts-nonneg i j h l = count-so _ (count-in i j h l) .0
@@ -85,5 +85,5 @@ module _ (m : ℕ) (s : TriangleSet) (valid : Valid m s) where
   pub paid-small : Small m (10 ^ 10) (s .paid)
   paid-small = record { few = few; cells = λ i j h l. paid-so _ (paid-in i j h l) .1 }
 
-  pub incurred-small : s .three ≡ true → Small m (10 ^ 10) (s .incurred)
-  incurred-small three = record { few = few; cells = λ i j h l. incurred-so _ (incurred-in three i j h l) }
+  pub incurred-small : s .«has_incurred» ≡ true → Small m (10 ^ 10) (s .incurred)
+  incurred-small there = record { few = few; cells = λ i j h l. incurred-so _ (incurred-in there i j h l) }

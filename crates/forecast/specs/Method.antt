@@ -8,7 +8,7 @@ use lib.IntN.{ℤ, pos, natAbs}
 use Rattle.integers.specs.Parts.{_⩽_, _⋖_}
 use Rattle.model.specs.Lists.{at, listed}
 use Rattle.model.specs.Shares.{g, ultimate}
-use Rattle.model.specs.RowBases.{rowBase, leftOvers}
+use Rattle.model.specs.RowBases.{rowBase, leftovers}
 use Rattle.model.specs.Questions.{firstNo, ofMethod}
 use Rattle.model.specs.Calls.{ifAccepted, zeros}
 use Rattle.model.specs.declared.TriangleSet.{TriangleSet}
@@ -32,7 +32,7 @@ noBases n = record { refusal = n; v = zeros 20; leftovers = zeros 20 }
 unfoldable pub methodBases : ℕ → TriangleSet → ℕ → MethodBases
 methodBases m s method =
     let n = firstNo (ofMethod m s method) in
-    record { refusal = n; v = ifAccepted n (rowBases m s method) (zeros 20); leftovers = ifAccepted n (leftOvers m s method) (zeros 20) }
+    record { refusal = n; v = ifAccepted n (rowBases m s method) (zeros 20); leftovers = ifAccepted n (leftovers m s method) (zeros 20) }
 
 -- W of the incurred triangle t under methods 1 and 2; zeros under method 0, where incurred is not asked for
 unfoldable pub incurredUnder : ℕ → List ℤ → ℕ → Incurred
@@ -56,7 +56,7 @@ pub record Sized (m method : ℕ) (d : Development) (t : List ℤ) : Type 0 wher
 pub record Asked (m : ℕ) (s : TriangleSet) (method : ℕ) : Type 0 where
   pub valid : Valid m s
   pub known : method ≤ 2
-  pub three : (method ≡ 0 → ⊥) → s .three ≡ true
+  pub hasIncurred : (method ≡ 0 → ⊥) → s .«has_incurred» ≡ true
   pub paid : Sound m (s .paid)
   pub least : pos (10 ^ 6) ⩽ g m (s .paid) 0
 

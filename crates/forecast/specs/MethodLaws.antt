@@ -17,7 +17,7 @@ use Rattle.model.specs.ListsLaws.{listed-ext, every-at, every-ext, every-all, a
 use Rattle.model.specs.Shares as Shares
 use Rattle.model.specs.Shares.{latest, A, B, g, ultimate, ultimates}
 use Rattle.model.specs.RowBases as RowBases
-use Rattle.model.specs.RowBases.{U, W, R, R*, rowBase, leftOver, leftOvers}
+use Rattle.model.specs.RowBases.{U, W, R, R*, rowBase, leftover, leftovers}
 use Rattle.model.specs.Questions.{within, usesIncurred, firstNo, ofMethod, q13, q14}
 use Rattle.model.specs.QuestionsLaws.{yes-first, no-first, all-yes, within-so, within-yes}
 use Rattle.model.specs.Calls.{zeros}
@@ -110,11 +110,11 @@ module _ (m : ℕ) (s : TriangleSet) (method : ℕ) (asked : Asked m s method) w
             let n : method ≡ 0 → ⊥ = eqb-false method 0 e in
             rw (at-ultimates m (s .paid) m-few 0 z, at-ultimates m (s .paid) m-few k h, i .are n 0 z, i .are n k h, at-latests m (s .paid) m-few k h)
 
-    pub left-is : (k : ℕ) → k < m → leftAt m method u c w k ≡ leftOver m s method (suc k)
-    unfolding leftFrom leftOver U W R R*
+    pub left-is : (k : ℕ) → k < m → leftAt m method u c w k ≡ leftover m s method (suc k)
+    unfolding leftFrom leftover U W R R*
     left-is k h = by-method (eqb method 0) refl
       where
-        by-method : (t : Bool) → eqb method 0 ≡ t → leftAt m method u c w k ≡ leftOver m s method (suc k)
+        by-method : (t : Bool) → eqb method 0 ≡ t → leftAt m method u c w k ≡ leftover m s method (suc k)
         by-method true e = let q : method ≡ 0 = eqb-true method 0 e in rw q
         by-method false e =
             let n : method ≡ 0 → ⊥ = eqb-false method 0 e in
@@ -124,9 +124,9 @@ module _ (m : ℕ) (s : TriangleSet) (method : ℕ) (asked : Asked m s method) w
     unfolding rowBases
     bases-are = listed-ext 20 m (baseAt m method u c w) (λ k. rowBase m s method (suc k)) (pos 0) base-is
 
-    pub lefts-are : listed 20 m (leftAt m method u c w) (pos 0) ≡ leftOvers m s method
-    unfolding leftOvers
-    lefts-are = listed-ext 20 m (leftAt m method u c w) (λ k. leftOver m s method (suc k)) (pos 0) left-is
+    pub lefts-are : listed 20 m (leftAt m method u c w) (pos 0) ≡ leftovers m s method
+    unfolding leftovers
+    lefts-are = listed-ext 20 m (leftAt m method u c w) (λ k. leftover m s method (suc k)) (pos 0) left-is
 
     -- question 14 as it is asked
     pub asked-14 : every m (λ k. leb (natAbs (baseAt m method u c w k)) (2 * 10 ^ 14)) ≡ q14 m s method
@@ -153,7 +153,7 @@ module _ (m : ℕ) (s : TriangleSet) (method : ℕ) (asked : Asked m s method) w
   pub with-incurred : (method ≡ 0 → ⊥) → q13 m s ≡ true → Incurreds m s method (ultimates m (s .incurred))
   unfolding q13
   with-incurred n e = record {
-    small = λ k h. rw (at-ultimates m (s .incurred) m-few k h) (ultimate-nonneg m t (suc k) (c-low k h) (g-pos k h), ultimate-small m t (incurred-small m s (asked .valid) (asked .three n)) shares (suc k) (omega arith) (omega arith));
+    small = λ k h. rw (at-ultimates m (s .incurred) m-few k h) (ultimate-nonneg m t (suc k) (c-low k h) (g-pos k h), ultimate-small m t (incurred-small m s (asked .valid) (asked .hasIncurred n)) shares (suc k) (omega arith) (omega arith));
     first = λ _. first-pos;
     are = λ _ k h. at-ultimates m (s .incurred) m-few k h;
   }
@@ -221,7 +221,7 @@ module _ (m : ℕ) (s : TriangleSet) (method : ℕ) where
   unfolding methodBases
   refused-with k e = rw (e, ne-eqb (suc k) 0 (λ z. omega arith))
 
-  pub accepted-with : firstNo (ofMethod m s method) ≡ 0 → methodBases m s method ≡ record { refusal = 0; v = rowBases m s method; leftovers = leftOvers m s method }
+  pub accepted-with : firstNo (ofMethod m s method) ≡ 0 → methodBases m s method ≡ record { refusal = 0; v = rowBases m s method; leftovers = leftovers m s method }
   unfolding methodBases
   accepted-with e = rw e
 
@@ -231,7 +231,7 @@ module _ (m : ℕ) (s : TriangleSet) (method : ℕ) where
   pub refused-14 : method ≤ 2 → (method ≡ 0 → ⊥) → q13 m s ≡ true → q14 m s method ≡ false → methodBases m s method ≡ noBases 14
   refused-14 h n a e = refused-with 13 (no-14 h n a e)
 
-  pub accepted : method ≤ 2 → (method ≡ 0 → ⊥) → q13 m s ≡ true → q14 m s method ≡ true → methodBases m s method ≡ record { refusal = 0; v = rowBases m s method; leftovers = leftOvers m s method }
+  pub accepted : method ≤ 2 → (method ≡ 0 → ⊥) → q13 m s ≡ true → q14 m s method ≡ true → methodBases m s method ≡ record { refusal = 0; v = rowBases m s method; leftovers = leftovers m s method }
   accepted h n a b = accepted-with (both h n a b)
 
   -- the ultimates of incurred that the method uses
@@ -277,7 +277,7 @@ module _ (m : ℕ) (s : TriangleSet) (method : ℕ) (asked : Asked m s method) (
         by-method (λ q e. absurd (false≢true (sym f ∙ passed-14 m s method asked (x .ultimates) (incurreds t) q)))
         (λ n e. refused-14 m s method (asked .known) n (sym (ok-is e) ∙ t) (sym (asked-14 m s method asked (x .ultimates) (incurreds t)) ∙ f))
 
-    pub answer-yes : passes ≡ true → methodBases m s method ≡ record { refusal = 0; v = rowBases m s method; leftovers = leftOvers m s method }
+    pub answer-yes : passes ≡ true → methodBases m s method ≡ record { refusal = 0; v = rowBases m s method; leftovers = leftovers m s method }
     answer-yes f =
         by-method (λ q e. accepted-with m s method (none-asked m s method q))
         (λ n e. accepted m s method (asked .known) n (sym (ok-is e) ∙ t) (sym (asked-14 m s method asked (x .ultimates) (incurreds t)) ∙ f))
@@ -312,7 +312,7 @@ module _ (m : ℕ) (s : TriangleSet) (method : ℕ) (asked : Asked m s method) w
   sized = record {
     some = some m s (asked .valid);
     few = few m s (asked .valid);
-    incurred = λ n. incurred-small m s (asked .valid) (asked .three n);
+    incurred = λ n. incurred-small m s (asked .valid) (asked .hasIncurred n);
     years = λ has. sizes m s method asked (x .ultimates) (have has);
   }
 

@@ -3,7 +3,7 @@ use Prim.Native.Nat.{ℕ}
 use mathlib.Core.List.{List}
 use lib.IntN.{ℤ}
 use Rattle.model.specs.Delays.{delaysOf}
-use Rattle.model.specs.RowBases.{leftOvers}
+use Rattle.model.specs.RowBases.{leftovers}
 use Rattle.model.specs.Cells.{outputFrom}
 use Rattle.model.specs.Questions.{firstNo, ofForecast}
 use Rattle.model.specs.Calls.{ifAccepted, zeros}
@@ -24,11 +24,11 @@ unprepared n = record { refusal = n; counts = noDevelopment; p = zeros 20; v = z
 unfoldable pub prepared : ℕ → TriangleSet → ℕ → Prepared
 prepared m s method =
     let n = setRefusal m s method in
-    ifAccepted n (record { refusal = 0; counts = development m (s .counts); p = delaysOf m s; v = rowBases m s method; leftovers = leftOvers m s method }) (unprepared n)
+    ifAccepted n (record { refusal = 0; counts = development m (s .counts); p = delaysOf m s; v = rowBases m s method; leftovers = leftovers m s method }) (unprepared n)
 
 -- what the forecast of a set hands back, and the output afterwards
 unfoldable pub setAnswer : ℕ → TriangleSet → ℕ → ForecastAnswer
-setAnswer m s method = let n = setRefusal m s method in record { refusal = n; leftovers = ifAccepted n (leftOvers m s method) (zeros 20) }
+setAnswer m s method = let n = setRefusal m s method in record { refusal = n; leftovers = ifAccepted n (leftovers m s method) (zeros 20) }
 
 unfoldable pub setOutput : ℕ → TriangleSet → ℕ → ℕ → List ℤ → List ℤ
 setOutput m s method basis before = ifAccepted (setRefusal m s method) (outputFrom m s (delaysOf m s) method basis before) before

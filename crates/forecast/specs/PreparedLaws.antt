@@ -14,7 +14,7 @@ use Rattle.model.specs.ListsLaws.{and-left, and-right}
 use Rattle.model.specs.Shares as Shares
 use Rattle.model.specs.Shares.{g, bList}
 use Rattle.model.specs.Delays.{delaysOf}
-use Rattle.model.specs.RowBases.{leftOvers}
+use Rattle.model.specs.RowBases.{leftovers}
 use Rattle.model.specs.Questions.{q6, q9, q10, q11, q12, firstNo, ofShares, ofDelays, ofMethod, ofForecast}
 use Rattle.model.specs.QuestionsLaws.{yes-first, no-first, first-append, numbered}
 use Rattle.model.specs.Calls.{zeros}
@@ -59,7 +59,7 @@ module _ (m : ℕ) (s : TriangleSet) (method : ℕ) where
   refused n o e = rw (e, ne-eqb n 0 o)
 
   pub whole : setRefusal m s method ≡ 0
-      → prepared m s method ≡ record { refusal = 0; counts = development m (s .counts); p = delaysOf m s; v = rowBases m s method; leftovers = leftOvers m s method }
+      → prepared m s method ≡ record { refusal = 0; counts = development m (s .counts); p = delaysOf m s; v = rowBases m s method; leftovers = leftovers m s method }
   unfolding prepared
   whole e = rw e
 
@@ -84,12 +84,12 @@ module _ (m : ℕ) (s : TriangleSet) (method : ℕ) where
       targets = λ l h. rw (at-bList m (s .paid) (few m s valid) l h) (share-range m (s .paid) paid-sound l h);
     }
 
-    pub method-asked : (basis : ℕ) → q6 (s .three) method basis ≡ true → Asked m s method
+    pub method-asked : (basis : ℕ) → q6 (s .«has_incurred») method basis ≡ true → Asked m s method
     unfolding q6 q11
     method-asked basis e = record {
       valid = valid;
       known = leb-true method 2 (and-left _ _ (and-left _ _ e));
-      three = λ n. there (s .three) (eqb method 1) (eqb method 2) refl refl n (and-right (leb method 2 && leb basis 1) _ e);
+      hasIncurred = λ n. there (s .«has_incurred») (eqb method 1) (eqb method 2) refl refl n (and-right (leb method 2 && leb basis 1) _ e);
       paid = paid-sound;
       least = le-yes (and-right (leZ (pos (10 ^ 6)) (g m (s .counts) 0)) _ (asked .2));
     }

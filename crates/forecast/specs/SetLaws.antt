@@ -14,7 +14,7 @@ use Rattle.model.specs.Overlay.{overlay}
 use Rattle.model.specs.Shares as Shares
 use Rattle.model.specs.Shares.{gList, bList}
 use Rattle.model.specs.Delays.{delays, delaysOf}
-use Rattle.model.specs.RowBases.{rowBase, leftOvers}
+use Rattle.model.specs.RowBases.{rowBase, leftovers}
 use Rattle.model.specs.Cells.{sList}
 use Rattle.model.specs.Questions.{within, q6, q9, q10, q11, q12, firstNo, ofShares, ofDelays, ofMethod, ofForecast}
 use Rattle.model.specs.QuestionsLaws.{all-yes, within-so}
@@ -40,7 +40,7 @@ use Rattle.forecast.specs.Prepared.{setRefusal, prepared, setAnswer, set
 use Rattle.forecast.specs.PreparedLaws.{counts-sound, method-asked, refused, whole}
 
 -- what an accepted set answered
-module _ (m : ℕ) (s : TriangleSet) (method basis : ℕ) (valid : Valid m s) (six : q6 (s .three) method basis ≡ true) (accepted : setRefusal m s method ≡ 0) where
+module _ (m : ℕ) (s : TriangleSet) (method basis : ℕ) (valid : Valid m s) (six : q6 (s .«has_incurred») method basis ≡ true) (accepted : setRefusal m s method ≡ 0) where
   answers : (firstNo (ofShares m s) ≡ 0) × (q12 m (delaysOf m s) ≡ true) × (firstNo (ofMethod m s method) ≡ 0)
   unfolding setRefusal ofForecast ofShares ofDelays
   answers =
@@ -135,14 +135,14 @@ module _ (m : ℕ) (s : TriangleSet) (method : ℕ) (x : Prepared) (x-is : x ≡
     pub is-accepted : setRefusal m s method ≡ 0
     is-accepted = sym refusal-is ∙ e
 
-    pub parts : x ≡ record { refusal = 0; counts = development m (s .counts); p = delaysOf m s; v = rowBases m s method; leftovers = leftOvers m s method }
+    pub parts : x ≡ record { refusal = 0; counts = development m (s .counts); p = delaysOf m s; v = rowBases m s method; leftovers = leftovers m s method }
     parts = x-is ∙ whole m s method is-accepted
 
     pub accepted-answer : record { refusal = 0; leftovers = x .leftovers } ≡ setAnswer m s method
     unfolding setAnswer
     accepted-answer = rw is-accepted (ap (λ (y : Prepared). record { refusal = 0; leftovers = y .leftovers }) parts)
 
-    module _ (basis : ℕ) (valid : Valid m s) (six : q6 (s .three) method basis ≡ true) where
+    module _ (basis : ℕ) (valid : Valid m s) (six : q6 (s .«has_incurred») method basis ≡ true) where
       pub years-ready : Ready m (s .counts) (x .counts .shares) (x .counts .g) (x .counts .latest) (x .v) (x .p)
       unfolding development
       years-ready =

@@ -25,7 +25,7 @@ use Rattle.forecast.specs.Prepared.{setRefusal}
 use Rattle.forecast.specs.FileLaws.{passed}
 use Rattle.forecast.specs.SetLaws.{set-weights, set-shares, set-delays, set-bases}
 
-module _ (m : ℕ) (s : TriangleSet) (method basis : ℕ) (valid : Valid m s) (six : q6 (s .three) method basis ≡ true) (accepted : setRefusal m s method ≡ 0) where
+module _ (m : ℕ) (s : TriangleSet) (method basis : ℕ) (valid : Valid m s) (six : q6 (s .«has_incurred») method basis ≡ true) (accepted : setRefusal m s method ≡ 0) where
   known-or : (t : Bool) (z : ℤ) → natAbs z ≤ 2 * 10 ^ 15 → natAbs (cond t (pos 0) z) ≤ 2 * 10 ^ 15
   known-or true z h = omega arith
   known-or false z h = h

@@ -9,8 +9,8 @@ ghost use Rattle.model.specs.Questions.{q6};
 ghost use Rattle.model.specs.Calls.{Forecasted, zeros};
 
 // Question 6.
-pub fn method_known(three: bool, method: u64, basis: u64) -> bool
-    ensures { λ r. ⌜ r ≡ q6 three method basis ⌝ }
+pub fn method_known(has_incurred: bool, method: u64, basis: u64) -> bool
+    ensures { λ r. ⌜ r ≡ q6 «has_incurred» method basis ⌝ }
 {
     if 2 < method {
         return false;
@@ -21,7 +21,7 @@ pub fn method_known(three: bool, method: u64, basis: u64) -> bool
     if method == 0 {
         return true;
     }
-    three
+    has_incurred
 }
 
 // A refusal, with zeros beside it.
@@ -43,7 +43,7 @@ pub fn forecast(file: &[u8], m: usize, method: u64, basis: u64, out: &mut [i64])
     if read.refusal != 0 {
         return refused(read.refusal);
     }
-    if !method_known(read.set.three, method, basis) {
+    if !method_known(read.set.has_incurred, method, basis) {
         return refused(6);
     }
     if out.len() < 2 * m * (2 * m - 1) {

@@ -1,5 +1,5 @@
 // The row bases of a set under a method, and the questions 13 and 14.
-use cells::bases::left_overs;
+use cells::bases::leftovers;
 use cells::bases::row_bases;
 use chain_ladder::Development;
 use chain_ladder::Incurred;
@@ -60,6 +60,6 @@ pub fn method_bases(paid: Development, incurred: &[i64; 400], m: usize, method: 
     MethodBases {
         refusal: 0,
         v,
-        leftovers: left_overs(m, method, u, c, w),
+        leftovers: leftovers(m, method, u, c, w),
     }
 }

@@ -44,7 +44,7 @@ fn not_prepared(number: u64) -> Prepared
 
 // Questions 9 to 14, and what the cells are made of.
 fn prepare(set: TriangleSet, m: usize, method: u64, basis: u64) -> Prepared
-    requires { ⌜ Valid m set × (q6 (set .three) method basis ≡ true) ⌝ }
+    requires { ⌜ Valid m set × (q6 (set .«has_incurred») method basis ≡ true) ⌝ }
     ensures { λ r. ⌜ r ≡ prepared m set method ⌝ }
 {
     let d = chain_ladder::develop(&set.counts, &set.paid, m);
@@ -83,7 +83,7 @@ pub fn forecast_set(
     basis: u64,
     out: &mut [i64],
 ) -> ForecastAnswer
-    requires { ⌜ Valid m set × (q6 (set .three) method basis ≡ true) × (size m ≤ length (now out)) ⌝ }
+    requires { ⌜ Valid m set × (q6 (set .«has_incurred») method basis ≡ true) × (size m ≤ length (now out)) ⌝ }
     ensures { λ r. ⌜ (r ≡ setAnswer m set method) × (now (out .exit) ≡ setOutput m set method basis (now (out .entry))) ⌝ }
 {
     let ready = prepare(set, m, method, basis);

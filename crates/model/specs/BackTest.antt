@@ -14,7 +14,7 @@ use Rattle.model.specs.declared.TriangleSet.{TriangleSet}
 unfoldable pub cutTo : ℕ → TriangleSet → TriangleSet
 cutTo n s =
     record {
-      three = s .three;
+      «has_incurred» = s .«has_incurred»;
       counts = triangle n (cell (s .counts));
       paid = triangle n (cell (s .paid));
       incurred = triangle n (cell (s .incurred));
@@ -34,17 +34,17 @@ unfoldable pub cellNumber : ℕ → ℕ → ℕ
 cellNumber c n = total (min c (n - 1)) (λ k. n - suc k)
 
 -- "the sum of absolute errors by cell"
-unfoldable pub errorByCell : ℕ → (ℕ → ℕ → ℤ) → ℕ
-errorByCell n d = total n (λ k. total n (λ j. natAbs (d (suc k) j)))
+unfoldable pub cellwise : ℕ → (ℕ → ℕ → ℤ) → ℕ
+cellwise n d = total n (λ k. total n (λ j. natAbs (d (suc k) j)))
 
 -- "that of calendar-year sums": the sum of year t = i + j - n
 unfoldable pub yearGap : ℕ → (ℕ → ℕ → ℤ) → ℕ → ℤ
 yearGap n d t = sum n (λ k. sum n (λ j. cond (eqb (suc k + j) (n + t)) (d (suc k) j) (pos 0)))
 
 -- the sum over calendar years 1 to c
-unfoldable pub errorByYear : ℕ → ℕ → (ℕ → ℕ → ℤ) → ℕ
-errorByYear n c d = total c (λ k. natAbs (yearGap n d (suc k)))
+unfoldable pub yearwise : ℕ → ℕ → (ℕ → ℕ → ℤ) → ℕ
+yearwise n c d = total c (λ k. natAbs (yearGap n d (suc k)))
 
 -- "and that of the total"
-unfoldable pub errorInAll : ℕ → (ℕ → ℕ → ℤ) → ℕ
-errorInAll n d = natAbs (sum n (λ k. sum n (λ j. d (suc k) j)))
+unfoldable pub overall : ℕ → (ℕ → ℕ → ℤ) → ℕ
+overall n d = natAbs (sum n (λ k. sum n (λ j. d (suc k) j)))

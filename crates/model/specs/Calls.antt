@@ -9,12 +9,12 @@ use lib.ListN.{length, take, drop, replicate}
 use Rattle.model.specs.Records.{setOf, givenSet, setLength, hasIncurred}
 use Rattle.model.specs.Shares.{gList, bList, ultimates}
 use Rattle.model.specs.Delays.{delaysOf}
-use Rattle.model.specs.RowBases.{leftOvers}
+use Rattle.model.specs.RowBases.{leftovers}
 use Rattle.model.specs.Cells.{outputFrom}
 use Rattle.model.specs.PaidReserve.{NearReserves}
 use Rattle.model.specs.Calendar.{tallyOf, page, refusalText, firstLine, refusalOf}
 use Rattle.model.specs.ClaimCosts.{claimCosts, noClaimCosts}
-use Rattle.model.specs.BackTest.{cutTo, gap, cellNumber, errorByCell, errorByYear, errorInAll}
+use Rattle.model.specs.BackTest.{cutTo, gap, cellNumber, cellwise, yearwise, overall}
 use Rattle.model.specs.Questions.{firstNo, ofFile, ofShares, ofDelays, ofForecast, q1, q4, q5Writer, q6, q7, q7Writer, q8}
 use Rattle.model.specs.declared.TriangleSet.{TriangleSet}
 use Rattle.model.specs.declared.ReadAnswer.{ReadAnswer}
@@ -40,7 +40,7 @@ unfoldable pub readRefusal : ℕ → List ℕ → ℕ
 readRefusal m f = firstNo (ofFile m f)
 
 abbrev pub noSet : TriangleSet
-noSet = record { three = false; counts = zeros 400; paid = zeros 400; incurred = zeros 400 }
+noSet = record { «has_incurred» = false; counts = zeros 400; paid = zeros 400; incurred = zeros 400 }
 
 unfoldable pub readAnswer : ℕ → List ℕ → ReadAnswer
 readAnswer m f = let n = readRefusal m f in record { refusal = n; set = ifAccepted n (setOf m f) noSet }
@@ -48,17 +48,17 @@ readAnswer m f = let n = readRefusal m f in record { refusal = n; set = ifAccept
 -- ---- the writer: "The writer takes 1, 5 and 7"
 
 unfoldable pub writeRefusal : ℕ → Bool → List ℤ → List ℤ → List ℤ → ℕ → ℕ
-writeRefusal m three c d e room = firstNo ((1, q1 m) ∷ (5, q5Writer m three c d e) ∷ (7, q7Writer m three room) ∷ [])
+writeRefusal m hasIncurred c d e room = firstNo ((1, q1 m) ∷ (5, q5Writer m hasIncurred c d e) ∷ (7, q7Writer m hasIncurred room) ∷ [])
 
 -- The output before and after, and the refusal number n. The order of the records is free; what holds of the bytes is named by the fields:
 -- "it writes each cell of the set once and nothing else" (once: question 4 of the bytes written, which are the set's length),
 -- "what it writes reads back as that set" (written), "Bytes past the set keep their values" (kept).
-pub record Wrote (m : ℕ) (three : Bool) (c d e : List ℤ) (before after : List ℕ) (n : ℕ) : Type 0 where
-  pub result : n ≡ writeRefusal m three c d e (length before)
+pub record Wrote (m : ℕ) (hasIncurred : Bool) (c d e : List ℤ) (before after : List ℕ) (n : ℕ) : Type 0 where
+  pub result : n ≡ writeRefusal m hasIncurred c d e (length before)
   pub refused : (n ≡ 0 → ⊥) → after ≡ before
-  pub once : n ≡ 0 → (length (take (setLength m three) after) ≡ setLength m three) × (q4 m (take (setLength m three) after) ≡ true)
-  pub written : n ≡ 0 → readAnswer m (take (setLength m three) after) ≡ record { refusal = 0; set = givenSet m three c d e }
-  pub kept : n ≡ 0 → drop (setLength m three) after ≡ drop (setLength m three) before
+  pub once : n ≡ 0 → (length (take (setLength m hasIncurred) after) ≡ setLength m hasIncurred) × (q4 m (take (setLength m hasIncurred) after) ≡ true)
+  pub written : n ≡ 0 → readAnswer m (take (setLength m hasIncurred) after) ≡ record { refusal = 0; set = givenSet m hasIncurred c d e }
+  pub kept : n ≡ 0 → drop (setLength m hasIncurred) after ≡ drop (setLength m hasIncurred) before
 
 -- ---- shares and ultimates: "a call that takes 1 to 5 and 9 to 11"
 
@@ -100,7 +100,7 @@ forecastRefusal m f method basis room =
 unfoldable pub forecastAnswer : ℕ → List ℕ → ℕ → ℕ → ℕ → ForecastAnswer
 forecastAnswer m f method basis room =
     let n = forecastRefusal m f method basis room in
-    record { refusal = n; leftovers = ifAccepted n (leftOvers m (setOf m f) method) (zeros 20) }
+    record { refusal = n; leftovers = ifAccepted n (leftovers m (setOf m f) method) (zeros 20) }
 
 -- the output afterwards: "lent memory keeps its entry values" on a refusal
 unfoldable pub forecastOutput : ℕ → List ℕ → ℕ → ℕ → List ℤ → List ℤ
@@ -132,7 +132,7 @@ backTestOf m s c method basis =
     let n = m - c in
     let p = delaysOf n (cutTo n s) in
     let d : ℕ → ℕ → ℤ = gap m n s p method basis in
-    record { refusal = 0; cells = cellNumber c n; cellwise = errorByCell n d; yearwise = errorByYear n c d; overall = errorInAll n d }
+    record { refusal = 0; cells = cellNumber c n; cellwise = cellwise n d; yearwise = yearwise n c d; overall = overall n d }
 
 unfoldable pub backTestAnswer : ℕ → List ℕ → ℕ → ℕ → ℕ → BackTestAnswer
 backTestAnswer m f c method basis =

@@ -40,7 +40,7 @@ size-high m h = rw (le-leb 2 m (omega arith), lt-leb m 20 h)
 -- ---- question 2
 
 module _ (m : ℕ) (f : List ℕ) where
-  pub length-yes : 2 ≤ m → (three : Bool) → length f ≡ setLength m three → (q2 m f ≡ true) × (three ≡ hasIncurred m f)
+  pub length-yes : 2 ≤ m → (there : Bool) → length f ≡ setLength m there → (q2 m f ≡ true) × (there ≡ hasIncurred m f)
   unfolding q2 hasIncurred
   length-yes lo true e = let y = eq-eqb (length f) (setLength m true) e in (rw y (or-true (eqb (length f) (setLength m false))), sym y)
   length-yes lo false e =

@@ -27,7 +27,7 @@ q2 m f = eqb (length f) (setLength m false) || eqb (length f) (setLength m true)
 
 -- the number of kinds that a length allows
 unfoldable pub kinds : Bool → ℕ
-kinds three = cond three 3 2
+kinds hasIncurred = cond hasIncurred 3 2
 
 -- 3, of record k
 unfoldable pub recordOk : ℕ → List ℕ → ℕ → Bool
@@ -51,8 +51,8 @@ q5 m f = every (records f) (λ k. inRange (kindAt f k) (valueAt f k))
 
 -- 5 for the writer: "question 5 looks only at the set's cells"
 unfoldable pub q5Writer : ℕ → Bool → List ℤ → List ℤ → List ℤ → Bool
-q5Writer m three c d e =
-    eachCell m (λ i j. inRange 0 (cell c i j)) && eachCell m (λ i j. inRange 1 (cell d i j)) && (not three || eachCell m (λ i j. inRange 2 (cell e i j)))
+q5Writer m hasIncurred c d e =
+    eachCell m (λ i j. inRange 0 (cell c i j)) && eachCell m (λ i j. inRange 1 (cell d i j)) && (not hasIncurred || eachCell m (λ i j. inRange 2 (cell e i j)))
 
 -- "the method is 1 or 2"
 abbrev pub usesIncurred : ℕ → Bool
@@ -60,7 +60,7 @@ usesIncurred method = eqb method 1 || eqb method 2
 
 -- 6. "Is the method 0, 1 or 2, the basis 0 or 1, and is incurred there if the method is 1 or 2?"
 unfoldable pub q6 : Bool → ℕ → ℕ → Bool
-q6 three method basis = leb method 2 && leb basis 1 && (not (usesIncurred method) || three)
+q6 hasIncurred method basis = leb method 2 && leb basis 1 && (not (usesIncurred method) || hasIncurred)
 
 -- 7. "Is the output long enough: 2m(2m-1) entries; for the writer, every byte of the set?"
 unfoldable pub q7 : ℕ → ℕ → Bool
@@ -68,7 +68,7 @@ q7 m room = leb (size m) room
 
 -- 7 for the writer
 unfoldable pub q7Writer : ℕ → Bool → ℕ → Bool
-q7Writer m three room = leb (setLength m three) room
+q7Writer m hasIncurred room = leb (setLength m hasIncurred) room
 
 -- 8. "(back-test only) Is c 1 to m - 2?"
 unfoldable pub q8 : ℕ → ℕ → Bool

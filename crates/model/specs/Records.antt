@@ -71,7 +71,7 @@ valueOf f t i j = sum (records f) (λ k. cond (isOf f t i j k) (valueAt f k) (po
 
 -- "A set has counts and paid, or all three, each cell once.": its length in bytes, m(m+1)/2 records of 16 bytes for each kind
 abbrev pub setLength : ℕ → Bool → ℕ
-setLength m three = cond three 24 16 * (m * (m + 1))
+setLength m hasIncurred = cond hasIncurred 24 16 * (m * (m + 1))
 
 -- a file has incurred where its length is that of all three
 unfoldable pub hasIncurred : ℕ → List ℕ → Bool
@@ -81,7 +81,7 @@ hasIncurred m f = eqb (length f) (setLength m true)
 unfoldable pub setOf : ℕ → List ℕ → TriangleSet
 setOf m f =
     record {
-      three = hasIncurred m f;
+      «has_incurred» = hasIncurred m f;
       counts = triangle m (valueOf f 0);
       paid = triangle m (valueOf f 1);
       incurred = triangle m (valueOf f 2);
@@ -89,12 +89,12 @@ setOf m f =
 
 -- the set that the writer is given, as the reader hands it back: "the others aren't read"
 unfoldable pub givenSet : ℕ → Bool → List ℤ → List ℤ → List ℤ → TriangleSet
-givenSet m three c d e =
+givenSet m hasIncurred c d e =
     record {
-      three = three;
+      «has_incurred» = hasIncurred;
       counts = triangle m (cell c);
       paid = triangle m (cell d);
-      incurred = cond three (triangle m (cell e)) (replicate 400 (pos 0));
+      incurred = cond hasIncurred (triangle m (cell e)) (replicate 400 (pos 0));
     }
 
 -- "Values: counts 0 to 10,000,000; paid 0 to 10^10; incurred -10^10 to 10^10."

@@ -5,9 +5,9 @@ ghost use mathlib.Core.Path.{_≡_};
 ghost use lib.IntN.{_+ℤ_};
 ghost use Rattle.model.specs.Calendar.{fits64, tallyAdd};
 
-// A set of triangles: cell (i,j) at 20 × (i-1) + j, zeros in the other places. `three` says that incurred is there beside counts and paid.
+// A set of triangles: cell (i,j) at 20 × (i-1) + j, zeros in the other places. `has_incurred` says that incurred is there beside counts and paid.
 pub struct TriangleSet {
-    pub three: bool,
+    pub has_incurred: bool,
     pub counts: [i64; 400],
     pub paid: [i64; 400],
     pub incurred: [i64; 400],

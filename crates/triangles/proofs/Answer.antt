@@ -18,7 +18,7 @@ use Rattle.model.specs.Lengths.{size-so, length-so}
 use Rattle.triangles.specs.Keys.{Keyed, keyCount, keySum}
 use Rattle.triangles.proofs.Once.{cellKey, cell-keys, keyed, fourth, triangle-key}
 
-full-number : (three : Bool) (n x l : ℕ) → 2 * n ≡ x → l ≡ cond three 24 16 * x → kinds three * n ≡ l / 16
+full-number : (hasIncurred : Bool) (n x l : ℕ) → 2 * n ≡ x → l ≡ cond hasIncurred 24 16 * x → kinds hasIncurred * n ≡ l / 16
 unfolding kinds
 full-number true n x l e g = omega arith
 full-number false n x l e g = omega arith
@@ -37,28 +37,28 @@ module _ (m : ℕ) (f : List ℕ) where
     unfolding readRefusal firstNo ofFile
     no-2 b = no 1 (rw (a, b))
 
-    module _ (b : q2 m f ≡ true) (three : Bool) (e : three ≡ hasIncurred m f) where
-      third : every (records f) (wellFormed m (kinds three) f) ≡ q3 m f
+    module _ (b : q2 m f ≡ true) (there : Bool) (e : there ≡ hasIncurred m f) where
+      third : every (records f) (wellFormed m (kinds there) f) ≡ q3 m f
       third = rw e (sym (q3-formed m f))
 
-      pub no-3 : every (records f) (wellFormed m (kinds three) f) ≡ false → record { refusal = 3; set = noSet } ≡ readAnswer m f
+      pub no-3 : every (records f) (wellFormed m (kinds there) f) ≡ false → record { refusal = 3; set = noSet } ≡ readAnswer m f
       unfolding readRefusal firstNo ofFile ofRecords
       no-3 h = no 2 (rw (a, b, sym third ∙ h))
 
-      module _ (formed : every (records f) (wellFormed m (kinds three) f) ≡ true) where
-        three-most : kinds three ≤ 3
+      module _ (formed : every (records f) (wellFormed m (kinds there) f) ≡ true) where
+        kinds-most : kinds there ≤ 3
         unfolding kinds
-        three-most = by-test three (λ y. rw y (omega arith)) (λ y. rw y (omega arith))
+        kinds-most = by-test there (λ y. rw y (omega arith)) (λ y. rw y (omega arith))
 
         pub all-keyed : Keyed f (records f)
-        all-keyed = keyed m (kinds three) f (records f) (size-so m a .1) formed three-most
+        all-keyed = keyed m (kinds there) f (records f) (size-so m a .1) formed kinds-most
 
-        full : total (400 * kinds three) (cellKey m) ≡ records f
-        full = cell-keys m (kinds three) ∙ full-number three _ _ (length f) (cells-of m (size-so m a .1)) (length-so m f b ∙ rw e)
+        full : total (400 * kinds there) (cellKey m) ≡ records f
+        full = cell-keys m (kinds there) ∙ full-number there _ _ (length f) (cells-of m (size-so m a .1)) (length-so m f b ∙ rw e)
 
         once : every 1200 (λ q. leb (keyCount f (records f) q) 1) ≡ q4 m f
         unfolding q4
-        once = fourth m (kinds three) f (records f) (size-so m a .1) formed full three-most refl ∙ rw e
+        once = fourth m (kinds there) f (records f) (size-so m a .1) formed full kinds-most refl ∙ rw e
 
         pub no-4 : every 1200 (λ q. leb (keyCount f (records f) q) 1) ≡ false → record { refusal = 4; set = noSet } ≡ readAnswer m f
         unfolding readRefusal firstNo ofFile ofRecords
@@ -72,10 +72,10 @@ module _ (m : ℕ) (f : List ℕ) where
           pub accepted :
               (cells : List ℤ) → every (records f) (ranged f) ≡ true → ((q : ℕ) → q < 1200 → at cells q ≡ keySum f (records f) q)
               → (c p i : List ℤ) → c ≡ tabulate 400 (λ k. at cells (400 * 0 + k)) → p ≡ tabulate 400 (λ k. at cells (400 * 1 + k)) → i ≡ tabulate 400 (λ k. at cells (400 * 2 + k))
-              → record { refusal = 0; set = record { three = three; counts = c; paid = p; incurred = i } } ≡ readAnswer m f
+              → record { refusal = 0; set = record { «has_incurred» = there; counts = c; paid = p; incurred = i } } ≡ readAnswer m f
           unfolding readAnswer readRefusal firstNo ofFile ofRecords q5 ranged setOf
           accepted cells h sums c p i ec ep ei =
-              let triangle = triangle-key m (kinds three) f (records f) (size-so m a .1) formed in
+              let triangle = triangle-key m (kinds there) f (records f) (size-so m a .1) formed in
               rw (
                 ec ∙ triangle 0 cells (omega arith) refl sums,
                 ep ∙ triangle 1 cells (omega arith) refl sums,

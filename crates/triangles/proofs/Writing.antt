@@ -18,7 +18,7 @@ use Rattle.model.specs.Overlay.{overlay, overlay-more}
 
 -- ---- the kinds, one after the other
 module _ (m : ℕ) (a b c : List ℤ) where
-  pub set-length : (three : Bool) → length (setBytes m three a b c) ≡ length (kindBytes m 0 a 400) + length (kindBytes m 1 b 400) + cond three (length (kindBytes m 2 c 400)) 0
+  pub set-length : (hasIncurred : Bool) → length (setBytes m hasIncurred a b c) ≡ length (kindBytes m 0 a 400) + length (kindBytes m 1 b 400) + cond hasIncurred (length (kindBytes m 2 c 400)) 0
   unfolding setBytes kindsBytes ofKind kinds
   set-length true = rw (length-append, length-append)
   set-length false = rw length-append (omega arith)
@@ -30,53 +30,53 @@ module _ (m : ℕ) (a b c : List ℤ) where
 
     pub set-three : (g : List ℕ) (k : ℕ) → k ≡ n + length (kindBytes m 1 b 400) → g ≡ overlay f k (kindBytes m 2 c 400) → g ≡ overlay d 0 (setBytes m true a b c)
     unfolding setBytes kindsBytes ofKind kinds
-    set-three g k ek three =
-        three ∙ rw set-two (overlay-more d 0 (kindBytes m 0 a 400 ++ kindBytes m 1 b 400) (kindBytes m 2 c 400) k (omega arith) (rw length-append (omega arith)))
+    set-three g k ek third =
+        third ∙ rw set-two (overlay-more d 0 (kindBytes m 0 a 400 ++ kindBytes m 1 b 400) (kindBytes m 2 c 400) k (omega arith) (rw length-append (omega arith)))
 
 -- ---- the cases of `Wrote`
-module _ (m : ℕ) (three : Bool) (a b c : List ℤ) (d : List ℕ) where
-  no : (r : ℕ) → suc r ≡ writeRefusal m three a b c (length d) → Wrote m three a b c d d (suc r)
+module _ (m : ℕ) (hasIncurred : Bool) (a b c : List ℤ) (d : List ℕ) where
+  no : (r : ℕ) → suc r ≡ writeRefusal m hasIncurred a b c (length d) → Wrote m hasIncurred a b c d d (suc r)
   no r e = record { result = e; refused = λ _. refl; once = λ z. absurd (bad z); written = λ z. absurd (bad z); kept = λ z. absurd (bad z) }
     where
       bad : suc r ≡ 0 → ⊥
       bad z = omega arith
 
-  pub no-1 : q1 m ≡ false → Wrote m three a b c d d 1
+  pub no-1 : q1 m ≡ false → Wrote m hasIncurred a b c d d 1
   unfolding writeRefusal firstNo
   no-1 s = no 0 (rw s)
 
   module _ (s : q1 m ≡ true) where
-    pub no-5 : q5Writer m three a b c ≡ false → Wrote m three a b c d d 5
+    pub no-5 : q5Writer m hasIncurred a b c ≡ false → Wrote m hasIncurred a b c d d 5
     unfolding writeRefusal firstNo
     no-5 o = no 4 (rw (s, o))
 
-    module _ (o : q5Writer m three a b c ≡ true) where
-      pub no-7 : length d < setLength m three → Wrote m three a b c d d 7
+    module _ (o : q5Writer m hasIncurred a b c ≡ true) where
+      pub no-7 : length d < setLength m hasIncurred → Wrote m hasIncurred a b c d d 7
       unfolding writeRefusal firstNo q7Writer
-      no-7 h = no 6 (rw (s, o, lt-leb (setLength m three) (length d) h))
+      no-7 h = no 6 (rw (s, o, lt-leb (setLength m hasIncurred) (length d) h))
 
       abbrev bytes : List ℕ
-      bytes = setBytes m three a b c
+      bytes = setBytes m hasIncurred a b c
 
-      abbrev long : length bytes ≡ setLength m three
-      long = length-set m a b c s three
+      abbrev long : length bytes ≡ setLength m hasIncurred
+      long = length-set m a b c s hasIncurred
 
-      front : take (setLength m three) (overlay d 0 bytes) ≡ bytes
+      front : take (setLength m hasIncurred) (overlay d 0 bytes) ≡ bytes
       unfolding overlay
-      front = take-at bytes _ (setLength m three) long
+      front = take-at bytes _ (setLength m hasIncurred) long
 
-      back : drop (setLength m three) (overlay d 0 bytes) ≡ drop (setLength m three) d
+      back : drop (setLength m hasIncurred) (overlay d 0 bytes) ≡ drop (setLength m hasIncurred) d
       unfolding overlay
-      back = drop-at bytes _ (setLength m three) long ∙ ap (λ (n : ℕ). drop n d) (zero-add _ ∙ long)
+      back = drop-at bytes _ (setLength m hasIncurred) long ∙ ap (λ (n : ℕ). drop n d) (zero-add _ ∙ long)
 
-      pub yes : (new : List ℕ) → setLength m three ≤ length d → new ≡ overlay d 0 bytes → Wrote m three a b c d new 0
+      pub yes : (new : List ℕ) → setLength m hasIncurred ≤ length d → new ≡ overlay d 0 bytes → Wrote m hasIncurred a b c d new 0
       unfolding writeRefusal firstNo q7Writer
       yes new h e =
-          let w : take (setLength m three) new ≡ bytes = ap (take (setLength m three)) e ∙ front in
+          let w : take (setLength m hasIncurred) new ≡ bytes = ap (take (setLength m hasIncurred)) e ∙ front in
           record {
-            result = rw (s, o, le-leb (setLength m three) (length d) h);
+            result = rw (s, o, le-leb (setLength m hasIncurred) (length d) h);
             refused = λ z. absurd (z refl);
-            once = λ _. (ap length w ∙ long, ap (q4 m) w ∙ once-each m a b c s three o);
-            written = λ _. ap (readAnswer m) w ∙ read-back m a b c s three o;
-            kept = λ _. ap (drop (setLength m three)) e ∙ back;
+            once = λ _. (ap length w ∙ long, ap (q4 m) w ∙ once-each m a b c s hasIncurred o);
+            written = λ _. ap (readAnswer m) w ∙ read-back m a b c s hasIncurred o;
+            kept = λ _. ap (drop (setLength m hasIncurred)) e ∙ back;
           }

@@ -19,7 +19,7 @@ use Rattle.triangles.specs.Written.{ofKind, setBytes}
 use Rattle.triangles.specs.WrittenLaws.{length-kinds, third, fourth, fifth, triangle-held, triangle-none}
 
 module _ (m : ℕ) (c d e : List ℤ) (size : q1 m ≡ true) where
-  pub length-set : (three : Bool) → length (setBytes m three c d e) ≡ setLength m three
+  pub length-set : (there : Bool) → length (setBytes m there c d e) ≡ setLength m there
   unfolding setBytes kinds
   length-set true = let n = cells-of m (size-so m size .1) in length-kinds m (ofKind c d e) 3 ∙ omega arith
   length-set false = let n = cells-of m (size-so m size .1) in length-kinds m (ofKind c d e) 2 ∙ omega arith
@@ -28,58 +28,58 @@ module _ (m : ℕ) (c d e : List ℤ) (size : q1 m ≡ true) where
   abbrev fine : ℕ → Bool
   fine t = eachCell m (λ i j. inRange t (cell (ofKind c d e t) i j))
 
-  of-kind : (three : Bool) → q5Writer m three c d e ≡ true → (t : ℕ) → t < kinds three → fine t ≡ true
+  of-kind : (there : Bool) → q5Writer m there c d e ≡ true → (t : ℕ) → t < kinds there → fine t ≡ true
   unfolding q5Writer ofKind kinds
-  of-kind three h zero l = and-left (fine 0) (fine 1) (and-left (fine 0 && fine 1) (not three || fine 2) h)
-  of-kind three h (suc zero) l = and-right (fine 0) (fine 1) (and-left (fine 0 && fine 1) (not three || fine 2) h)
+  of-kind there h zero l = and-left (fine 0) (fine 1) (and-left (fine 0 && fine 1) (not there || fine 2) h)
+  of-kind there h (suc zero) l = and-right (fine 0) (fine 1) (and-left (fine 0 && fine 1) (not there || fine 2) h)
   of-kind true h (suc (suc zero)) l = and-right (fine 0 && fine 1) (fine 2) h
   of-kind false h (suc (suc zero)) l = absurd (omega arith)
   of-kind true h (suc (suc (suc t))) l = absurd (omega arith)
   of-kind false h (suc (suc (suc t))) l = absurd (omega arith)
 
-  module _ (three : Bool) (ok : q5Writer m three c d e ≡ true) where
+  module _ (there : Bool) (ok : q5Writer m there c d e ≡ true) where
     abbrev written : List ℕ
-    written = setBytes m three c d e
+    written = setBytes m there c d e
 
-    in-range : (t p : ℕ) → t < kinds three → p < 400 → insideAt m p ≡ true → inRange t (at (ofKind c d e t) p) ≡ true
+    in-range : (t p : ℕ) → t < kinds there → p < 400 → insideAt m p ≡ true → inRange t (at (ofKind c d e t) p) ≡ true
     in-range t p k l i =
-        ap (inRange t) (sym (cell-place (ofKind c d e t) p)) ∙ eachCell-at m (λ i j. inRange t (cell (ofKind c d e t) i j)) (of-kind three ok t k) p i
+        ap (inRange t) (sym (cell-place (ofKind c d e t) p)) ∙ eachCell-at m (λ i j. inRange t (cell (ofKind c d e t) i j)) (of-kind there ok t k) p i
 
-    second : (q2 m written ≡ true) × (three ≡ hasIncurred m written)
-    second = length-yes m written (size-so m size .0) three (length-set three)
+    second : (q2 m written ≡ true) × (there ≡ hasIncurred m written)
+    second = length-yes m written (size-so m size .0) there (length-set there)
 
     pub once-each : q4 m written ≡ true
     unfolding q4 setBytes
-    once-each = rw (← second .1) (fourth m (ofKind c d e) (kinds three) in-range (size-so m size .1))
+    once-each = rw (← second .1) (fourth m (ofKind c d e) (kinds there) in-range (size-so m size .1))
 
     all-formed : q3 m written ≡ true
     unfolding setBytes
-    all-formed = q3-formed m written ∙ rw (← second .1) (third m (ofKind c d e) (kinds three) in-range)
+    all-formed = q3-formed m written ∙ rw (← second .1) (third m (ofKind c d e) (kinds there) in-range)
 
     accepted : readRefusal m written ≡ 0
     unfolding readRefusal firstNo ofFile ofRecords setBytes
-    accepted = rw (size, second .0, all-formed, once-each, fifth m (ofKind c d e) (kinds three) in-range)
+    accepted = rw (size, second .0, all-formed, once-each, fifth m (ofKind c d e) (kinds there) in-range)
 
-    last : (b : Bool) → three ≡ b → triangle m (valueOf written 2) ≡ cond b (triangle m (cell e)) (replicate 400 (pos 0))
+    last : (b : Bool) → there ≡ b → triangle m (valueOf written 2) ≡ cond b (triangle m (cell e)) (replicate 400 (pos 0))
     unfolding setBytes kinds ofKind
-    last true z = triangle-held m (ofKind c d e) (kinds three) in-range 2 (rw z (omega arith))
-    last false z = triangle-none m (ofKind c d e) (kinds three) in-range 2 (rw z (omega arith))
+    last true z = triangle-held m (ofKind c d e) (kinds there) in-range 2 (rw z (omega arith))
+    last false z = triangle-none m (ofKind c d e) (kinds there) in-range 2 (rw z (omega arith))
 
-    two-kinds : 2 ≤ kinds three
+    two-kinds : 2 ≤ kinds there
     unfolding kinds
-    two-kinds = by-test three (λ z. rw z (omega arith)) (λ z. rw z (omega arith))
+    two-kinds = by-test there (λ z. rw z (omega arith)) (λ z. rw z (omega arith))
 
-    set-back : setOf m written ≡ givenSet m three c d e
+    set-back : setOf m written ≡ givenSet m there c d e
     unfolding setOf givenSet setBytes ofKind
     set-back =
         rw (
           ← second .1,
-          triangle-held m (ofKind c d e) (kinds three) in-range 0 (omega (arith, two-kinds)),
-          triangle-held m (ofKind c d e) (kinds three) in-range 1 (omega (arith, two-kinds)),
-          last three refl,
+          triangle-held m (ofKind c d e) (kinds there) in-range 0 (omega (arith, two-kinds)),
+          triangle-held m (ofKind c d e) (kinds there) in-range 1 (omega (arith, two-kinds)),
+          last there refl,
         )
 
     -- the reader hands back the set that was given
-    pub read-back : readAnswer m written ≡ record { refusal = 0; set = givenSet m three c d e }
+    pub read-back : readAnswer m written ≡ record { refusal = 0; set = givenSet m there c d e }
     unfolding readAnswer
     read-back = rw (accepted, set-back)

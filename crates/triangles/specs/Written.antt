@@ -42,4 +42,4 @@ kindsBytes m s zero = []
 kindsBytes m s (suc u) = kindsBytes m s u ++ kindBytes m u (s u) 400
 
 unfoldable pub setBytes : ℕ → Bool → List ℤ → List ℤ → List ℤ → List ℕ
-setBytes m three c d e = kindsBytes m (ofKind c d e) (kinds three)
+setBytes m hasIncurred c d e = kindsBytes m (ofKind c d e) (kinds hasIncurred)

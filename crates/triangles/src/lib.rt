@@ -18,7 +18,7 @@ fn refused(number: u64) -> model::ReadAnswer
     model::ReadAnswer {
         refusal: number,
         set: model::TriangleSet {
-            three: false,
+            has_incurred: false,
             counts: none,
             paid: none,
             incurred: none,
@@ -27,14 +27,14 @@ fn refused(number: u64) -> model::ReadAnswer
 }
 
 // Questions 3 to 5, and the set that an accepted file holds.
-fn read_records(file: &[u8], m: usize, three: bool) -> model::ReadAnswer
+fn read_records(file: &[u8], m: usize, has_incurred: bool) -> model::ReadAnswer
     requires { ⌜ q1 m ≡ true ⌝ }
     requires { ⌜ q2 m (now file) ≡ true ⌝ }
-    requires { ⌜ three ≡ hasIncurred m (now file) ⌝ }
+    requires { ⌜ «has_incurred» ≡ hasIncurred m (now file) ⌝ }
     ensures { λ r. ⌜ r ≡ readAnswer m (now (file .entry)) ⌝ }
 {
     let n = file.len() / 16;
-    let kinds = questions::kinds(three);
+    let kinds = questions::kinds(has_incurred);
     if !questions::records_ok(file, m, kinds, n) {
         return refused(3);
     }
@@ -49,7 +49,7 @@ fn read_records(file: &[u8], m: usize, three: bool) -> model::ReadAnswer
     model::ReadAnswer {
         refusal: 0,
         set: model::TriangleSet {
-            three,
+            has_incurred,
             counts: cells::of_kind(&cells, 0),
             paid: cells::of_kind(&cells, 1),
             incurred: cells::of_kind(&cells, 2),
@@ -80,13 +80,13 @@ pub fn read_set(file: &[u8], m: usize) -> model::ReadAnswer
 // The writer: questions 1, 5 and 7, and the set's records at the front of the output.
 pub fn write_set(
     m: usize,
-    three: bool,
+    has_incurred: bool,
     counts: [i64; 400],
     paid: [i64; 400],
     incurred: [i64; 400],
     out: &mut [u8],
 ) -> u64
-    ensures { λ r. ⌜ Wrote m three counts paid incurred (now (out .entry)) (now (out .exit)) r ⌝ }
+    ensures { λ r. ⌜ Wrote m «has_incurred» counts paid incurred (now (out .entry)) (now (out .exit)) r ⌝ }
 {
     if m < 2 {
         return 1;
@@ -94,12 +94,12 @@ pub fn write_set(
     if 20 < m {
         return 1;
     }
-    if !questions::set_ok(m, three, counts, paid, incurred) {
+    if !questions::set_ok(m, has_incurred, counts, paid, incurred) {
         return 5;
     }
-    if out.len() < writer::set_length(m, three) {
+    if out.len() < writer::set_length(m, has_incurred) {
         return 7;
     }
-    writer::put_set(m, three, counts, paid, incurred, out);
+    writer::put_set(m, has_incurred, counts, paid, incurred, out);
     0
 }

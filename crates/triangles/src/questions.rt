@@ -13,10 +13,10 @@ ghost use Rattle.triangles.specs.OneRecord.{wellFormed, ranged};
 ghost use Rattle.triangles.specs.Places.{insideAt};
 
 // The number of kinds of a set.
-pub fn kinds(three: bool) -> usize
-    ensures { λ r. ⌜ r ≡ kinds three ⌝ }
+pub fn kinds(has_incurred: bool) -> usize
+    ensures { λ r. ⌜ r ≡ kinds «has_incurred» ⌝ }
 {
-    if three {
+    if has_incurred {
         return 3;
     }
     2
@@ -128,13 +128,13 @@ fn cells_ok(m: usize, kind: usize, cells: [i64; 400]) -> bool
 // Question 5 of the set.
 pub fn set_ok(
     m: usize,
-    three: bool,
+    has_incurred: bool,
     counts: [i64; 400],
     paid: [i64; 400],
     incurred: [i64; 400],
 ) -> bool
     requires { ⌜ m ≤ 20 ⌝ }
-    ensures { λ r. ⌜ r ≡ q5Writer m three counts paid incurred ⌝ }
+    ensures { λ r. ⌜ r ≡ q5Writer m «has_incurred» counts paid incurred ⌝ }
 {
     if !cells_ok(m, 0, counts) {
         return false;
@@ -142,7 +142,7 @@ pub fn set_ok(
     if !cells_ok(m, 1, paid) {
         return false;
     }
-    if three {
+    if has_incurred {
         return cells_ok(m, 2, incurred);
     }
     true

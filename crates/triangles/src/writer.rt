@@ -8,12 +8,12 @@ ghost use Rattle.model.specs.Overlay.{overlay};
 ghost use Rattle.triangles.specs.Written.{bits, recordBytes, placeBytes, kindBytes, setBytes};
 
 // The bytes that a set takes.
-pub fn set_length(m: usize, three: bool) -> usize
+pub fn set_length(m: usize, has_incurred: bool) -> usize
     requires { ⌜ m ≤ 20 ⌝ }
-    ensures { λ r. ⌜ r ≡ setLength m three ⌝ }
+    ensures { λ r. ⌜ r ≡ setLength m «has_incurred» ⌝ }
 {
     let cells = m * (m + 1);
-    if three {
+    if has_incurred {
         return 24 * cells;
     }
     16 * cells
@@ -108,18 +108,18 @@ fn put_kind(out: &mut [u8], a: usize, m: usize, kind: usize, cells: [i64; 400]) 
 // Writes a set at the front of the output.
 pub fn put_set(
     m: usize,
-    three: bool,
+    has_incurred: bool,
     counts: [i64; 400],
     paid: [i64; 400],
     incurred: [i64; 400],
     out: &mut [u8],
 )
-    requires { ⌜ length (setBytes m three counts paid incurred) ≤ length (now out) ⌝ }
-    ensures { λ _. ⌜ now (out .exit) ≡ overlay (now (out .entry)) 0 (setBytes m three counts paid incurred) ⌝ }
+    requires { ⌜ length (setBytes m «has_incurred» counts paid incurred) ≤ length (now out) ⌝ }
+    ensures { λ _. ⌜ now (out .exit) ≡ overlay (now (out .entry)) 0 (setBytes m «has_incurred» counts paid incurred) ⌝ }
 {
     let second = put_kind(out, 0, m, 0, counts);
     let third = put_kind(out, second, m, 1, paid);
-    if three {
+    if has_incurred {
         put_kind(out, third, m, 2, incurred);
     }
 }

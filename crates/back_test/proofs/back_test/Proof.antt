@@ -58,7 +58,7 @@ module _ (c : tie.After-method-known) where
 
   asked-6 : c .method-known .result ≡ q6 (hasIncurred (m two) (f two)) (start two .args .method) (start two .args .basis)
   unfolding setOf
-  asked-6 = c .method-known .ensures ∙ ap (λ (t : TriangleSet). q6 (t .three) (start two .args .method) (start two .args .basis)) (set-is else)
+  asked-6 = c .method-known .ensures ∙ ap (λ (t : TriangleSet). q6 (t .«has_incurred») (start two .args .method) (start two .args .basis)) (set-is else)
 
 -- it got a yes
 module _ (c : tie.Else2) where

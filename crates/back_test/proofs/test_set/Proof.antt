@@ -109,14 +109,14 @@ gaps-requires c κs = forecast-is (c .before .before .before)
 cell-number-requires : tie.Need-cell-number-requires
 cell-number-requires c κs = let s = some (start (done (c .before .before .before .before))) in (omega arith, s .1)
 
-error-by-cell-requires : tie.Need-error-by-cell-requires
-error-by-cell-requires c κs = let g = c .before .before in (small g, some (start (done (g .before .before .before .before))) .1)
+cellwise-requires : tie.Need-cellwise-requires
+cellwise-requires c κs = let g = c .before .before in (small g, some (start (done (g .before .before .before .before))) .1)
 
-error-by-year-requires : tie.Need-error-by-year-requires
-error-by-year-requires c κs = let g = c .before .before .before .before in let s = some (start (done (g .before .before .before .before))) in (small g, s .1, s .2)
+yearwise-requires : tie.Need-yearwise-requires
+yearwise-requires c κs = let g = c .before .before .before .before in let s = some (start (done (g .before .before .before .before))) in (small g, s .1, s .2)
 
-error-in-all-requires : tie.Need-error-in-all-requires
-error-in-all-requires c κs = let g = c .before .before .before .before .before .before in (small g, some (start (done (g .before .before .before .before))) .1)
+overall-requires : tie.Need-overall-requires
+overall-requires c κs = let g = c .before .before .before .before .before .before in (small g, some (start (done (g .before .before .before .before))) .1)
 
 returns-2 : tie.Need-returns-2
 returns-2 c =
@@ -125,7 +125,7 @@ returns-2 c =
     let w = done e in
     let s = start w in
     test-yes (m s) (set s) (cut-off s) (s .args .method) (s .args .basis) (s .pre .0) (s .pre .1) (s .pre .2) (s .pre .3) (accepted e) (output w) (output-is w)
-    (g .gaps .ensures) (c .before .before .before .before .before .before .cell-number .ensures) (c .before .before .before .before .error-by-cell .ensures) (c .before .before .error-by-year .ensures) (c .error-in-all .ensures)
+    (g .gaps .ensures) (c .before .before .before .before .before .before .cell-number .ensures) (c .before .before .before .before .cellwise .ensures) (c .before .before .yearwise .ensures) (c .overall .ensures)
 
 pub test-set-spec : {M : Type 1} → statement M
 test-set-spec =
@@ -140,7 +140,7 @@ test-set-spec =
     slice-aggregate-gaps
     gaps-requires
     cell-number-requires
-    error-by-cell-requires
-    error-by-year-requires
-    error-in-all-requires
+    cellwise-requires
+    yearwise-requires
+    overall-requires
     returns-2)

@@ -66,7 +66,7 @@ unfolding setOf
 asked-6 c =
     let e = c .before in
     let d = one e in
-    c .method-known .ensures ∙ ap (λ (t : TriangleSet). q6 (t .three) (start d .args .method) (start d .args .basis)) (set-is e)
+    c .method-known .ensures ∙ ap (λ (t : TriangleSet). q6 (t .«has_incurred») (start d .args .method) (start d .args .basis)) (set-is e)
 
 read-set-requires : tie.Need-read-set-requires
 read-set-requires c κs = search needs

@@ -23,10 +23,10 @@ abbrev file : tie.After-records-ok → List ℕ
 file c = now (start c .args .file)
 
 -- question 3, and that it had a yes
-third : (c : tie.After-records-ok) → every (records (file c)) (wellFormed (start c .args .m) (kinds (start c .args .three)) (file c)) ≡ c .records-ok .result
+third : (c : tie.After-records-ok) → every (records (file c)) (wellFormed (start c .args .m) (kinds (start c .args .has-incurred)) (file c)) ≡ c .records-ok .result
 third c = sym (c .records-ok .ensures ∙ ap (λ (u : ℕ). every (records (file c)) (wellFormed (start c .args .m) u (file c))) (c .before .kinds .ensures))
 
-formed : (c : tie.Else1) → every (records (file (c .before))) (wellFormed (start (c .before) .args .m) (kinds (start (c .before) .args .three)) (file (c .before))) ≡ true
+formed : (c : tie.Else1) → every (records (file (c .before))) (wellFormed (start (c .before) .args .m) (kinds (start (c .before) .args .has-incurred)) (file (c .before))) ≡ true
 formed c = third (c .before) ∙ not-false _ (c .if1 .left)
 
 -- the place after question 3

@@ -16,7 +16,7 @@ size : (c : tie.Else2) → q1 (c .before .before .before .args .m) ≡ true
 size c = size-yes _ (c .before .if1 .left) (c .if2 .left)
 
 -- question 5 had a yes
-ranges : (c : tie.Else3) → let s = c .before .before .before .before .before .args in q5Writer (s .m) (s .three) (s .counts) (s .paid) (s .incurred) ≡ true
+ranges : (c : tie.Else3) → let s = c .before .before .before .before .before .args in q5Writer (s .m) (s .has-incurred) (s .counts) (s .paid) (s .incurred) ≡ true
 ranges c = sym (c .before .set-ok .ensures) ∙ not-false _ (c .if3 .left)
 
 returns : tie.Need-returns
@@ -44,7 +44,7 @@ put-set-requires c κs =
     let e = c .before in
     let d = e .before .before in
     let s = d .before .before .before .before .before .args in
-    omega (arith, e .if4 .left, e .before .set-length .ensures, length-set (s .m) (s .counts) (s .paid) (s .incurred) (size (d .before .before)) (s .three))
+    omega (arith, e .if4 .left, e .before .set-length .ensures, length-set (s .m) (s .counts) (s .paid) (s .incurred) (size (d .before .before)) (s .has-incurred))
 
 same-length : tie.Need-same-length
 same-length c = search needs

@@ -20,8 +20,8 @@ returns c =
     let k = ne-eqb _ 0 (c .if1 .taken) in
     (ap (λ (a : ReadAnswer). a .refusal) (c .before .read-set .ensures), (rw k, (rw k, (rw k, rw k))))
 
-cast-three : tie.Need-cast-three
-cast-three c = search needs
+cast-has-incurred : tie.Need-cast-has-incurred
+cast-has-incurred c = search needs
 
 returns-2 : tie.Need-returns-2
 returns-2 c =
@@ -29,10 +29,10 @@ returns-2 c =
     let e = o .ensures in (
       sym (c .before .before .before .before .if1 .left) ∙ ap (λ (a : ReadAnswer). a .refusal) e,
       (
-        as-number (o .result .set .three) ∙ ap (λ (a : ReadAnswer). cond (a .set .three) 1 0) e,
+        as-number (o .result .set .«has_incurred») ∙ ap (λ (a : ReadAnswer). cond (a .set .«has_incurred») 1 0) e,
         (ap (λ (a : ReadAnswer). a .set .counts) e, (ap (λ (a : ReadAnswer). a .set .paid) e, ap (λ (a : ReadAnswer). a .set .incurred) e)),
       ),
     )
 
 pub pardesul-read-set-spec : {M : Type 1} → statement M
-pardesul-read-set-spec = tie.close (tie.spec read-set-requires returns cast-three returns-2)
+pardesul-read-set-spec = tie.close (tie.spec read-set-requires returns cast-has-incurred returns-2)

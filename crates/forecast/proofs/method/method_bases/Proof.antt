@@ -63,8 +63,8 @@ returns-2 c =
     ∙ sym (from-14 (start d .args .m) (start d .args .method) (start d .args .paid) (x d) (not-false (x d .ok) (e .if1 .left)) out)
     ∙ whole d
 
-left-overs-requires : tie.Need-left-overs-requires
-left-overs-requires c κs =
+leftovers-requires : tie.Need-leftovers-requires
+leftovers-requires c κs =
     let b = c .before .before .before in
     let e = b .before .before .before .before in
     let d = e .before .before in
@@ -76,7 +76,7 @@ returns-3 c =
     let e = b .before .before .before .before in
     let d = e .before .before in
     let in-range = sym (ap (λ (y : Bases). y .ok) (b .row-bases .ensures)) ∙ not-false (b .row-bases .result .ok) (c .before .before .if2 .left) in
-    ap₂ (λ (v l : List ℤ). record { refusal = 0; v = v; leftovers = l }) (ap (λ (y : Bases). y .v) (b .row-bases .ensures)) (c .left-overs .ensures)
+    ap₂ (λ (v l : List ℤ). record { refusal = 0; v = v; leftovers = l }) (ap (λ (y : Bases). y .v) (b .row-bases .ensures)) (c .leftovers .ensures)
     ∙ sym (from-yes (start d .args .m) (start d .args .method) (start d .args .paid) (x d) (not-false (x d .ok) (e .if1 .left)) in-range)
     ∙ whole d
 
@@ -90,5 +90,5 @@ method-bases-spec =
     row-bases-requires
     no-bases-requires-2
     returns-2
-    left-overs-requires
+    leftovers-requires
     returns-3)

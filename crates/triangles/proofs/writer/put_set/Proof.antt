@@ -13,10 +13,10 @@ use Rattle.triangles.proofs.writer.put_set.Tie as tie
 
 all-bytes :
     (s : tie.Start)
-    → length (setBytes (s .args .m) (s .args .three) (s .args .counts) (s .args .paid) (s .args .incurred))
+    → length (setBytes (s .args .m) (s .args .has-incurred) (s .args .counts) (s .args .paid) (s .args .incurred))
     ≡ length (kindBytes (s .args .m) 0 (s .args .counts) 400) + length (kindBytes (s .args .m) 1 (s .args .paid) 400)
-    + cond (s .args .three) (length (kindBytes (s .args .m) 2 (s .args .incurred) 400)) 0
-all-bytes s = set-length (s .args .m) (s .args .counts) (s .args .paid) (s .args .incurred) (s .args .three)
+    + cond (s .args .has-incurred) (length (kindBytes (s .args .m) 2 (s .args .incurred) 400)) 0
+all-bytes s = set-length (s .args .m) (s .args .counts) (s .args .paid) (s .args .incurred) (s .args .has-incurred)
 
 put-kind-requires : tie.Need-put-kind-requires
 put-kind-requires c κs = (omega arith, omega (arith, c .before .before .pre, all-bytes (c .before .before)))

@@ -1,4 +1,4 @@
--- `errors::error_by_year` meets its contract: the calendar years so far are summed. Assumes nothing.
+-- `errors::yearwise` meets its contract: the calendar years so far are summed. Assumes nothing.
 use mathlib.Core.Path.{_≡_, _∙_, ap}
 use Prim.Native.Nat.{ℕ, suc, _-_, _*_, _^_, _≤_}
 use native.Mathlib.Numerals.{add-one}
@@ -10,10 +10,10 @@ use mir.Val.{toZ, ofZ}
 use mir.Facts.{toZ-ofZ}
 use Rattle.model.specs.Lists.{total}
 use Rattle.model.specs.Records.{cell}
-use Rattle.model.specs.BackTest.{yearGap, errorByYear}
+use Rattle.model.specs.BackTest.{yearGap, yearwise}
 use Rattle.back_test.specs.ErrorsLaws.{total-none, total-more, gap-small, years-small}
-use Rattle.back_test.proofs.errors.error_by_year.Statement.{statement}
-use Rattle.back_test.proofs.errors.error_by_year.Tie as tie
+use Rattle.back_test.proofs.errors.yearwise.Statement.{statement}
+use Rattle.back_test.proofs.errors.yearwise.Tie as tie
 
 abbrev Inv-loop : tie.InvT-loop
 Inv-loop d n c out₀ k₀ out k = (k ≤ c) × (out ≡ total k (λ k. natAbs (yearGap n (cell d) (suc k))))
@@ -68,11 +68,11 @@ loop-again : tie.Need-loop-again Inv-loop μ-loop
 loop-again c = (omega arith, total-more (k (c .before)) _ (c .before .before .before .loop .inv .1) (error-is c))
 
 returns : tie.Need-returns Inv-loop μ-loop
-unfolding errorByYear
+unfolding yearwise
 returns c = let e : c .before .loop .k ≡ c .before .before .args .c = omega arith in rw e at (c .before .loop .inv .1)
 
-pub error-by-year-spec : {M : Type 1} → statement M
-error-by-year-spec =
+pub yearwise-spec : {M : Type 1} → statement M
+yearwise-spec =
     tie.close
     (tie.spec
     Inv-loop

@@ -1,4 +1,4 @@
--- `errors::error_by_cell` meets its contract: the rows so far are summed. Assumes nothing.
+-- `errors::cellwise` meets its contract: the rows so far are summed. Assumes nothing.
 use mathlib.Core.Path.{_≡_}
 use Prim.Native.Nat.{suc, _-_, _≤_}
 use native.Mathlib.Omega.{arith}
@@ -6,10 +6,10 @@ use denote.Ref.{now}
 use lib.IntN.{natAbs}
 use Rattle.model.specs.Lists.{total}
 use Rattle.model.specs.Records.{cell}
-use Rattle.model.specs.BackTest.{errorByCell}
+use Rattle.model.specs.BackTest.{cellwise}
 use Rattle.back_test.specs.ErrorsLaws.{total-none, total-more, row-small, cells-small}
-use Rattle.back_test.proofs.errors.error_by_cell.Statement.{statement}
-use Rattle.back_test.proofs.errors.error_by_cell.Tie as tie
+use Rattle.back_test.proofs.errors.cellwise.Statement.{statement}
+use Rattle.back_test.proofs.errors.cellwise.Tie as tie
 
 abbrev Inv-loop : tie.InvT-loop
 Inv-loop d n out₀ k₀ out k = (k ≤ n) × (out ≡ total k (λ k. total n (λ j. natAbs (cell d (suc k) j))))
@@ -45,11 +45,11 @@ loop-again : tie.Need-loop-again Inv-loop μ-loop
 loop-again c = let l = c .before .before .loop in (omega arith, total-more (l .k) _ (l .inv .1) (c .row-error .ensures))
 
 returns : tie.Need-returns Inv-loop μ-loop
-unfolding errorByCell
+unfolding cellwise
 returns c = let e : c .before .loop .k ≡ c .before .before .args .n = omega arith in rw e at (c .before .loop .inv .1)
 
-pub error-by-cell-spec : {M : Type 1} → statement M
-error-by-cell-spec =
+pub cellwise-spec : {M : Type 1} → statement M
+cellwise-spec =
     tie.close
     (tie.spec
     Inv-loop

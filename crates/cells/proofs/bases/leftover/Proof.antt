@@ -1,4 +1,4 @@
--- `cells::bases::left_over` meets its contract. Assumes nothing.
+-- `cells::bases::leftover` meets its contract. Assumes nothing.
 use mathlib.Core.Path.{sym, ap}
 use native.Mathlib.Omega.{arith}
 use lib.IntN.{_-ℤ_}
@@ -8,8 +8,8 @@ use mir.Facts.{toZ-ofZ}
 use Rattle.arithmetic.proofs.Words.{fits-abs}
 use Rattle.cells.proofs.Words.{equal-words}
 use Rattle.cells.specs.BasesLaws.{left-none, left-settled, left-open, incurred-small, reserve-pos}
-use Rattle.cells.proofs.bases.left_over.Statement.{statement}
-use Rattle.cells.proofs.bases.left_over.Tie as tie
+use Rattle.cells.proofs.bases.leftover.Statement.{statement}
+use Rattle.cells.proofs.bases.leftover.Tie as tie
 
 incurred-fits : (s : tie.Start) → SFits w64 (s .args .w -ℤ s .args .c)
 incurred-fits s = fits-abs (omega (arith, incurred-small (s .pre)))
@@ -31,5 +31,5 @@ returns-3 c =
     let s = c .before .before in
     sym (left-open (s .args .method) (s .args .u) (s .args .w) (s .args .c) (omega arith) (reserve-pos (s .pre) (λ e. c .if2 .left (ap (ofZ w64) e))))
 
-pub left-over-spec : {M : Type 1} → statement M
-left-over-spec = tie.close (tie.spec returns sub-result returns-2 returns-3)
+pub leftover-spec : {M : Type 1} → statement M
+leftover-spec = tie.close (tie.spec returns sub-result returns-2 returns-3)

@@ -1,4 +1,4 @@
--- `errors::error_in_all` meets its contract: the rows so far are summed. Assumes nothing.
+-- `errors::overall` meets its contract: the rows so far are summed. Assumes nothing.
 use mathlib.Core.Path.{_≡_, _∙_, ap}
 use mathlib.Core.List.{List}
 use Prim.Native.Nat.{ℕ, suc, _+_, _-_, _≤_}
@@ -10,13 +10,13 @@ use mir.Val.{SFits, toZ, ofZ}
 use mir.Facts.{toZ-ofZ}
 use Rattle.integers.specs.Sums.{sum}
 use Rattle.model.specs.Records.{cell}
-use Rattle.model.specs.BackTest.{errorInAll}
+use Rattle.model.specs.BackTest.{overall}
 use Rattle.arithmetic.proofs.Words.{fits-abs}
 use Rattle.chain_ladder.proofs.Running.{sum-none, held, sum-more}
 use Rattle.back_test.specs.Gaps.{SmallGaps}
 use Rattle.back_test.specs.ErrorsLaws.{all-small}
-use Rattle.back_test.proofs.errors.error_in_all.Statement.{statement}
-use Rattle.back_test.proofs.errors.error_in_all.Tie as tie
+use Rattle.back_test.proofs.errors.overall.Statement.{statement}
+use Rattle.back_test.proofs.errors.overall.Tie as tie
 
 abbrev Inv-loop : tie.InvT-loop
 Inv-loop d n out₀ k₀ out k = (k ≤ n) × (out ≡ ofZ w64 (sum k (λ k. sum n (λ j. cell d (suc k) j))))
@@ -73,11 +73,11 @@ magnitude-requires c κs =
     rw (all-is c) (omega (arith, all-small (now (s .args .d)) (s .pre .0) (s .args .n) (s .pre .1) (s .args .n) (omega arith)))
 
 returns : tie.Need-returns Inv-loop μ-loop
-unfolding errorInAll
+unfolding overall
 returns c = c .magnitude .ensures ∙ ap natAbs (all-is (c .before))
 
-pub error-in-all-spec : {M : Type 1} → statement M
-error-in-all-spec =
+pub overall-spec : {M : Type 1} → statement M
+overall-spec =
     tie.close
     (tie.spec
     Inv-loop

@@ -1,10 +1,10 @@
 -- Laws of the back-test: of a set, from its forecast and its errors; of a file, its refusal question by question. Assumes nothing.
-use mathlib.Core.Path.{_≡_, _∙_, ap}
+use mathlib.Core.Path.{_≡_, sym, _∙_, ap}
 use mathlib.Core.Bool.{true, false, and-false}
-use mathlib.Core.List.{List, [], _∷_, _++_, append-assoc}
+use mathlib.Core.List.{List}
 use Prim.Native.Nat.{ℕ, suc, _+_, _-_, _≤_, _<_}
 use native.Mathlib.Omega.{arith}
-use borrow.Author.Tests.{ne-eqb, le-leb, lt-leb}
+use borrow.Author.Tests.{le-leb, lt-leb}
 use lib.Dec.{leb}
 use lib.IntN.{ℤ}
 use lib.ListN.{length}
@@ -12,19 +12,19 @@ use Rattle.model.specs.Records.{cell, setOf, hasIncurred}
 use Rattle.model.specs.Delays.{delaysOf}
 use Rattle.model.specs.Cells.{size, outputFrom}
 use Rattle.model.specs.BackTest.{cutTo, gap, cellNumber, cellwise, yearwise, overall}
-use Rattle.model.specs.Questions.{Question, q6, q8, firstNo, ofFile, ofForecast}
-use Rattle.model.specs.QuestionsLaws.{yes-first, no-first}
-use Rattle.model.specs.Calls.{zeros, readRefusal, backTestRefusal, backTestOf, backTestAnswer}
+use Rattle.model.specs.Questions.{q6, q8, ofForecast}
+use Rattle.model.specs.CallsLaws as CallsLaws
+use Rattle.model.specs.CallsLaws.{if-accepted, if-refused}
+use Rattle.model.specs.Calls.{zeros, readRefusal, backTestRefusal, backTestOf, refusedBackTest, backTestAnswer}
 use Rattle.model.specs.declared.TriangleSet.{TriangleSet}
-use Rattle.chain_ladder.specs.Accepted.{file-no, file-yes}
 use Rattle.chain_ladder.specs.Valid.{Valid, few, paid-small}
-use Rattle.forecast.specs.Prepared.{setRefusal, setOutput}
+use Rattle.forecast.specs.SetForecast.{setRefusal, setOutput}
 use Rattle.forecast.specs.SmallEntries.{output-small}
 use Rattle.back_test.specs.Gaps.{Forecast, gaps}
 use Rattle.back_test.specs.GapsLaws.{gap-is, gaps-at, size-small}
 use Rattle.back_test.specs.ErrorsLaws.{same-by-cell, same-by-year, same-in-all}
 use Rattle.back_test.specs.CutLaws as CutLaws
-use Rattle.back_test.specs.SetTest.{refusedTest, setTest}
+use Rattle.back_test.specs.SetTest.{setTest}
 
 -- ---- of a set
 module _ (m : ℕ) (s : TriangleSet) (c method basis : ℕ) where
@@ -34,9 +34,9 @@ module _ (m : ℕ) (s : TriangleSet) (c method basis : ℕ) where
   abbrev known : TriangleSet
   known = cutTo n s
 
-  pub test-no : (k : ℕ) → (k ≡ 0 → ⊥) → setRefusal n known method ≡ k → setTest m s c method basis ≡ refusedTest k
+  pub test-no : (k : ℕ) → (k ≡ 0 → ⊥) → setRefusal n known method ≡ k → setTest m s c method basis ≡ refusedBackTest k
   unfolding setTest
-  test-no k o e = rw (e, ne-eqb k 0 o)
+  test-no k o e = if-refused _ _ _ (λ z. o (sym e ∙ z)) ∙ ap refusedBackTest e
 
   module _ (valid : Valid m s) (six : q6 (s .«has_incurred») method basis ≡ true) (some : 1 ≤ c) (most : c + 2 ≤ m) where
     pub sizes : (2 ≤ n) × (n ≤ 20) × (c ≤ 20)
@@ -54,8 +54,7 @@ module _ (m : ℕ) (s : TriangleSet) (c method basis : ℕ) where
 
     module _ (accepted : setRefusal n known method ≡ 0) (out : List ℤ) (out-is : out ≡ setOutput n known method basis (zeros 1560)) where
       written : out ≡ outputFrom n known (delaysOf n known) method basis (zeros 1560)
-      unfolding setOutput
-      written = out-is ∙ rw accepted
+      written = out-is ∙ if-accepted _ _ _ accepted
 
       pub forecast-so : length out ≡ 1560 → Forecast m n out (s .paid)
       forecast-so l = record {
@@ -96,42 +95,36 @@ module _ (m : ℕ) (f : List ℕ) (c method basis : ℕ) where
   abbrev refusal : ℕ
   refusal = backTestRefusal m f c method basis
 
-  after : List Question
-  after = (6, q6 (hasIncurred m f) method basis) ∷ (8, q8 m c) ∷ ofForecast (m - c) cutSet (delaysOf (m - c) cutSet) method
+  abbrev six : Type 0
+  six = q6 (hasIncurred m f) method basis ≡ true
 
-  in-order : refusal ≡ firstNo (ofFile m f ++ after)
-  unfolding backTestRefusal after
-  in-order = ap firstNo (append-assoc (ofFile m f) ((6, q6 (hasIncurred m f) method basis) ∷ (8, q8 m c) ∷ []) (ofForecast (m - c) cutSet (delaysOf (m - c) cutSet) method))
-
-  pub refused : (k : ℕ) → (k ≡ 0 → ⊥) → refusal ≡ k → backTestAnswer m f c method basis ≡ refusedTest k
+  pub refused : (k : ℕ) → (k ≡ 0 → ⊥) → refusal ≡ k → backTestAnswer m f c method basis ≡ refusedBackTest k
   unfolding backTestAnswer
-  refused k o e = rw (e, ne-eqb k 0 o)
+  refused k o e = if-refused _ _ _ (λ z. o (sym e ∙ z)) ∙ ap refusedBackTest e
 
   pub by-file : (readRefusal m f ≡ 0 → ⊥) → refusal ≡ readRefusal m f
-  by-file o = in-order ∙ file-no m f after o
+  unfolding backTestRefusal
+  by-file = CallsLaws.by-file m f _ _
 
   module _ (read : readRefusal m f ≡ 0) where
-    pub by-method : q6 (hasIncurred m f) method basis ≡ false → refusal ≡ 6
-    unfolding after
-    by-method e = in-order ∙ file-yes m f after read ∙ no-first 6 _ _ e
+    pub by-six : q6 (hasIncurred m f) method basis ≡ false → refusal ≡ 6
+    unfolding backTestRefusal
+    by-six = CallsLaws.no-6 m f method basis 7 (q8 m c) (ofForecast (m - c) cutSet (delaysOf (m - c) cutSet) method) read
 
-    module _ (six : q6 (hasIncurred m f) method basis ≡ true) where
-      by-cut : q8 m c ≡ false → refusal ≡ 8
-      unfolding after
-      by-cut e = in-order ∙ file-yes m f after read ∙ yes-first 6 _ _ six ∙ no-first 8 _ _ e
+    pub none-cut : six → c < 1 → refusal ≡ 8
+    unfolding backTestRefusal q8
+    none-cut ok h = CallsLaws.no-next m f method basis 7 (q8 m c) (ofForecast (m - c) cutSet (delaysOf (m - c) cutSet) method) read ok (rw (lt-leb 1 c h))
 
-      pub none-cut : c < 1 → refusal ≡ 8
-      unfolding q8
-      none-cut h = by-cut (rw (lt-leb 1 c h))
+    pub much-cut : six → m < c + 2 → refusal ≡ 8
+    unfolding backTestRefusal q8
+    much-cut ok h =
+        CallsLaws.no-next m f method basis 7 (q8 m c) (ofForecast (m - c) cutSet (delaysOf (m - c) cutSet) method) read ok
+        (rw (lt-leb (c + 2) m h) (and-false (leb 1 c)))
 
-      pub much-cut : m < c + 2 → refusal ≡ 8
-      unfolding q8
-      much-cut h = by-cut (rw (lt-leb (c + 2) m h) (and-false (leb 1 c)))
-
-      by-set : 1 ≤ c → c + 2 ≤ m → refusal ≡ setRefusal (m - c) cutSet method
-      unfolding after setRefusal q8
-      by-set h l = in-order ∙ file-yes m f after read ∙ yes-first 6 _ _ six ∙ yes-first 8 _ _ (rw (le-leb 1 c h, le-leb (c + 2) m l))
-
-      pub tested : 1 ≤ c → c + 2 ≤ m → setTest m s c method basis ≡ backTestAnswer m f c method basis
-      unfolding setTest backTestAnswer
-      tested h l = rw (by-set h l)
+    pub tested : six → 1 ≤ c → c + 2 ≤ m → setTest m s c method basis ≡ backTestAnswer m f c method basis
+    unfolding setTest setRefusal backTestAnswer backTestRefusal q8
+    tested ok h l =
+        let to-set =
+        CallsLaws.to-set m f method basis 7 (q8 m c) (ofForecast (m - c) cutSet (delaysOf (m - c) cutSet) method) read ok
+        (rw (le-leb 1 c h, le-leb (c + 2) m l)) in
+        rw to-set

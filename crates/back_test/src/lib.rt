@@ -1,13 +1,15 @@
-// The back-test of a file: the forecast of the set without its latest calendar years, held against what was paid in them.
-mod cut;
-mod errors;
-mod gaps;
+// The back-test of a file: the forecast of the set without its latest calendar years, held against
+// what was paid in them. The cut, the gaps and their sums serve any number of later years: with
+// n + 1 in the place of m the gaps are those of the one year after a set of size n.
+pub mod cut;
+pub mod errors;
+pub mod gaps;
 
 use cut::cut;
 use errors::cell_number;
 use errors::cellwise;
-use errors::yearwise;
 use errors::overall;
+use errors::yearwise;
 use gaps::gaps;
 use model::BackTestAnswer;
 use model::TriangleSet;
@@ -15,13 +17,13 @@ ghost use mathlib.Core.Path.{_≡_};
 ghost use mathlib.Core.Bool.{true};
 ghost use Prim.Native.Nat.{_+_, _≤_};
 ghost use Rattle.model.specs.Questions.{q6};
-ghost use Rattle.model.specs.Calls.{backTestAnswer};
+ghost use Rattle.model.specs.Calls.{refusedBackTest, backTestAnswer};
 ghost use Rattle.chain_ladder.specs.Valid.{Valid};
-ghost use Rattle.back_test.specs.SetTest.{refusedTest, setTest};
+ghost use Rattle.back_test.specs.SetTest.{setTest};
 
 // A refusal, with zeros beside it.
 fn refused(number: u64) -> BackTestAnswer
-    ensures { λ r. ⌜ r ≡ refusedTest number ⌝ }
+    ensures { λ r. ⌜ r ≡ refusedBackTest number ⌝ }
 {
     BackTestAnswer {
         refusal: number,
@@ -58,7 +60,8 @@ fn test_set(set: TriangleSet, m: usize, method: u64, basis: u64, c: usize) -> Ba
     }
 }
 
-// The back-test of a file with its latest c calendar years cut off: questions 1 to 6 and 8, then 9 to 14 of the cut set.
+// The back-test of a file with its latest c calendar years cut off: questions 1 to 6 and 8, then 9
+// to 14 of the cut set.
 pub fn back_test(file: &[u8], m: usize, method: u64, basis: u64, c: usize) -> BackTestAnswer
     ensures { λ r. ⌜ r ≡ backTestAnswer m (now (file .entry)) c method basis ⌝ }
 {
@@ -66,7 +69,7 @@ pub fn back_test(file: &[u8], m: usize, method: u64, basis: u64, c: usize) -> Ba
     if read.refusal != 0 {
         return refused(read.refusal);
     }
-    if !forecast::method_known(read.set.has_incurred, method, basis) {
+    if !forecast::q6(read.set.has_incurred, method, basis) {
         return refused(6);
     }
     if c < 1 {

@@ -13,10 +13,9 @@ use lib.Seq.{take-all, take-nil, getD-take}
 use borrow.Author.Tests.{leb-true, ne-eqb}
 use Rattle.model.specs.ListsLaws.{and-right}
 use Rattle.model.specs.Records.{setLength}
-use Rattle.model.specs.Questions.{q1, q2, ofFile}
-use Rattle.model.specs.QuestionsLaws.{yes-first, no-first}
+use Rattle.model.specs.Questions.{q1, q2, ofFile, firstNo}
 use Rattle.model.specs.Calendar.{front, runAt, first, second, third, firstLine, refusalText}
-use Rattle.model.specs.Calls.{forecastRefusal, closingOf, closingText}
+use Rattle.model.specs.Calls.{callRefusal, forecastRefusal, closingOf, closingText}
 use Rattle.model.specs.declared.Run.{Run}
 use Rattle.model.specs.declared.Run.the-variants.{Number, Wrong}
 use Rattle.model.specs.declared.FirstLine.the-variants.{Asked}
@@ -82,9 +81,9 @@ no-length m f e h =
     rw (ne-eqb (length f) (setLength m false) (λ q. omega arith), ne-eqb (length f) (setLength m true) (λ q. omega arith))
 
 too-long : (m : ℕ) (f : List ℕ) (method basis room : ℕ) (t : Bool) → q1 m ≡ t → 10080 < length f → forecastRefusal m f method basis room ≡ cond t 2 1
-unfolding forecastRefusal ofFile
-too-long m f method basis room true e h = yes-first 1 (q1 m) _ e ∙ no-first 2 (q2 m f) _ (no-length m f e h)
-too-long m f method basis room false e h = no-first 1 (q1 m) _ e
+unfolding forecastRefusal callRefusal ofFile firstNo
+too-long m f method basis room true e h = rw (e, no-length m f e h)
+too-long m f method basis room false e h = rw e
 
 refused-long : (s : List ℕ) (m method basis a : ℕ) (t : Bool) → q1 m ≡ t → 10080 < length (drop a s) → closingOf s (Asked m method basis a) ≡ refusalText (cond t 2 1)
 unfolding closingOf

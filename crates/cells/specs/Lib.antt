@@ -1,7 +1,4 @@
--- Bases: a year's row base and left over. Weights: what the cells ask of weights and delays. CellOf: a cell, the entries of a year and of several years.
--- Ready: what the writing of the years asks.
-pub mod Bases
-pub mod BasesLaws
+-- Weights: what the cells ask of weights and delays. CellOf: a cell, the entries of a year and of several years. Ready: what the writing of the years asks.
 pub mod Weights
 pub mod WeightsLaws
 pub mod PairLaws

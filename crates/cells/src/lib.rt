@@ -1,5 +1,4 @@
-// The cells of a forecast: row bases, weights of the reported claims, and the cells of all years.
-pub mod bases;
+// The cells of a forecast: weights of the reported claims, and the cells of all years.
 mod cell;
 mod weights;
 pub mod years;

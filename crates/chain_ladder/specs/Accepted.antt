@@ -1,10 +1,10 @@
 -- A file that the reader accepts holds a valid set: each of its values is in range, and each cell is the value of its one record. Assumes nothing.
-use mathlib.Core.Path.{_≡_, refl, sym, _∙_, ap, subst}
+use mathlib.Core.Path.{_≡_, refl, sym, _∙_, subst}
 use mathlib.Core.Bool.{Bool, true, cond}
-use mathlib.Core.List.{List, _++_}
+use mathlib.Core.List.{List}
 use Prim.Native.Nat.{ℕ, zero, suc, _+_, _≤_, _<_}
 use native.Mathlib.Omega.{arith}
-use borrow.Author.Tests.{eqb-true, eqb-false, ne-eqb}
+use borrow.Author.Tests.{eqb-true}
 use lib.Dec.{eqb}
 use lib.IntN.{ℤ, pos, +ℤ-idl, +ℤ-idr}
 use Rattle.integers.specs.Sums.{sum}
@@ -12,9 +12,11 @@ use Rattle.model.specs.Lists.{total, count}
 use Rattle.model.specs.ListsLaws.{every-at, and-left}
 use Rattle.model.specs.Records.{cell, kindAt, valueAt, records, isOf, copies, valueOf, hasIncurred, triangle, setOf, inRange}
 use Rattle.model.specs.RecordsLaws.{cell-triangle}
-use Rattle.model.specs.Questions.{Question, firstNo, q4, q5, q5Writer, kinds, eachCell, ofFile, ofRecords}
-use Rattle.model.specs.QuestionsLaws.{all-yes, numbered, first-append, eachCell-at, eachCell-all}
+use Rattle.model.specs.Questions.{q1, q4, q5, q5Writer, kinds, eachCell, ofFile, ofRecords}
+use Rattle.model.specs.QuestionsLaws.{EachYes, numbered, each-yes, eachCell-at, eachCell-all}
 use Rattle.model.specs.Calls.{readRefusal, readAnswer}
+use Rattle.model.specs.CallsLaws.{read-refusal, read-whole}
+use Rattle.model.specs.declared.TriangleSet.{TriangleSet}
 use Rattle.model.specs.declared.ReadAnswer.{ReadAnswer}
 use Rattle.model.specs.Lengths.{size-so}
 use Rattle.model.specs.Tests.{by-test}
@@ -62,38 +64,23 @@ module _ (m : ℕ) (f : List ℕ) (few : m ≤ 20) (once : q4 m f ≡ true) (val
       some-kinds t h = by-test (hasIncurred m f) (λ e. rw e (omega arith)) (λ e. rw e h)
 
 pub valid-set : (m : ℕ) (f : List ℕ) → readRefusal m f ≡ 0 → Valid m (setOf m f)
-unfolding readRefusal ofFile ofRecords setOf
+unfolding readRefusal ofFile ofRecords numbered setOf
 valid-set m f accepted =
-    let a1 = all-yes 0 _ _ accepted in
-    let a2 = all-yes 1 _ _ (a1 .1) in
-    let a3 = all-yes 2 _ _ (a2 .1) in
-    let a4 = all-yes 3 _ _ (a3 .1) in
-    let a5 = all-yes 4 _ _ (a4 .1) in
-    record { size = a1 .0; values = set-in m f (size-so m (a1 .0) .1) (a4 .0) (a5 .0) }
+    let h : EachYes (ofFile m f) = each-yes (ofFile m f) refl accepted in
+    let size : q1 m ≡ true = search in
+    let once : q4 m f ≡ true = search in
+    let ranged : q5 m f ≡ true = search in
+    record { size = size; values = set-in m f (size-so m size .1) once ranged }
 
--- ---- what the reader hands back
-module _ (m : ℕ) (f : List ℕ) {r : ReadAnswer} (read : r ≡ readAnswer m f) where
-  pub read-refusal : r .refusal ≡ readRefusal m f
-  unfolding readAnswer
-  read-refusal = ap (λ (x : ReadAnswer). x .refusal) read
+-- a file that the reader accepts, and its set s
+pub record Accepted (m : ℕ) (f : List ℕ) (s : TriangleSet) : Type 0 where
+  pub read : readRefusal m f ≡ 0
+  pub valid : Valid m s
+  pub is : s ≡ setOf m f
 
-  pub read-whole : r .refusal ≡ 0 → r .set ≡ setOf m f
-  unfolding readAnswer
-  read-whole e = let z : readRefusal m f ≡ 0 = sym read-refusal ∙ e in ap (λ (x : ReadAnswer). x .set) read ∙ rw z
-
--- ---- questions that follow those of the file
-module _ (m : ℕ) (f : List ℕ) (qs : List Question) where
-  asked-after : firstNo (ofFile m f ++ qs) ≡ cond (eqb (readRefusal m f) 0) (firstNo qs) (readRefusal m f)
-  unfolding readRefusal numbered ofFile ofRecords
-  asked-after = first-append (ofFile m f) qs tt
-
-  pub file-no : (readRefusal m f ≡ 0 → ⊥) → firstNo (ofFile m f ++ qs) ≡ readRefusal m f
-  file-no o = asked-after ∙ rw (ne-eqb (readRefusal m f) 0 o)
-
-  pub file-yes : readRefusal m f ≡ 0 → firstNo (ofFile m f ++ qs) ≡ firstNo qs
-  file-yes e = asked-after ∙ rw e
-
-  pub file-so : firstNo (ofFile m f ++ qs) ≡ 0 → (readRefusal m f ≡ 0) × (firstNo qs ≡ 0)
-  file-so e =
-      by-test (eqb (readRefusal m f) 0) (λ t. let z = eqb-true (readRefusal m f) 0 t in (z, sym (file-yes z) ∙ e))
-      (λ t. let o = eqb-false (readRefusal m f) 0 t in absurd (o (sym (file-no o) ∙ e)))
+-- what the reader hands back without a refusal
+pub accepted : (m : ℕ) (f : List ℕ) {r : ReadAnswer} → r ≡ readAnswer m f → r .refusal ≡ 0 → Accepted m f (r .set)
+accepted m f e z =
+    let read = sym (read-refusal m f e) ∙ z in
+    let is = read-whole m f e z in
+    record { read = read; valid = subst (Valid m) (sym is) (valid-set m f read); is = is }

@@ -1,6 +1,6 @@
 -- What questions 1 and 5 give of a set. Assumes nothing.
 use mathlib.Core.Path.{_≡_}
-use mathlib.Core.Bool.{true, false, _&&_}
+use mathlib.Core.Bool.{true, _&&_}
 use mathlib.Core.List.{List}
 use Prim.Native.Nat.{ℕ, _+_, _^_, _≤_}
 use native.Mathlib.Omega.{arith}
@@ -10,7 +10,6 @@ use Rattle.integers.specs.Order.{natAbs-≤, natAbs-mono}
 use Rattle.model.specs.ListsLaws.{and-left, and-right}
 use Rattle.model.specs.Records.{cell, inRange}
 use Rattle.model.specs.Questions.{q1, q5Writer, eachCell}
-use Rattle.model.specs.Calls.{zeros}
 use Rattle.model.specs.QuestionsLaws.{within-so, eachCell-at}
 use Rattle.model.specs.declared.TriangleSet.{TriangleSet}
 use Rattle.model.specs.Lengths.{size-so}
@@ -22,18 +21,11 @@ pub record Valid (m : ℕ) (s : TriangleSet) : Type 0 where
   pub size : q1 m ≡ true
   pub values : q5Writer m (s .«has_incurred») (s .counts) (s .paid) (s .incurred) ≡ true
 
--- the set of two triangles that are lent, and that of incurred: `develop` and `incurred_ultimates` look at no other triangle
-abbrev pub countsAndPaid : List ℤ → List ℤ → TriangleSet
-countsAndPaid c p = record { «has_incurred» = false; counts = c; paid = p; incurred = zeros 400 }
-
-abbrev pub incurredAlone : List ℤ → TriangleSet
-incurredAlone t = record { «has_incurred» = true; counts = zeros 400; paid = zeros 400; incurred = t }
-
-pub valid-pair : (m : ℕ) (s : TriangleSet) → Valid m s → Valid m (countsAndPaid (s .counts) (s .paid))
-unfolding q5Writer
-valid-pair m s valid =
-    let e : (eachCell m (λ i j. inRange 0 (cell (s .counts) i j)) && eachCell m (λ i j. inRange 1 (cell (s .paid) i j))) ≡ true = and-left _ _ (valid .values) in
-    record { size = valid .size; values = rw e }
+-- the same of counts (n is 10^7) or paid (n is 10^10) alone: each cell is from 0 to n
+pub record Amounts (m n : ℕ) (t : List ℤ) : Type 0 where
+  pub least : 2 ≤ m
+  pub nonneg : NotNegative m t
+  pub small : Small m n t
 
 -- a value in its range
 count-so : (v : ℤ) → inRange 0 v ≡ true → (pos 0 ⩽ v) × (natAbs v ≤ 10 ^ 7)
@@ -84,6 +76,12 @@ module _ (m : ℕ) (s : TriangleSet) (valid : Valid m s) where
 
   pub paid-small : Small m (10 ^ 10) (s .paid)
   paid-small = record { few = few; cells = λ i j h l. paid-so _ (paid-in i j h l) .1 }
+
+  pub counts-of : Amounts m (10 ^ 7) (s .counts)
+  counts-of = record { least = least; nonneg = counts-nonneg; small = counts-small }
+
+  pub paid-of : Amounts m (10 ^ 10) (s .paid)
+  paid-of = record { least = least; nonneg = paid-nonneg; small = paid-small }
 
   pub incurred-small : s .«has_incurred» ≡ true → Small m (10 ^ 10) (s .incurred)
   incurred-small there = record { few = few; cells = λ i j h l. incurred-so _ (incurred-in there i j h l) }

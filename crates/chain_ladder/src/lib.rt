@@ -6,8 +6,8 @@ ghost use mathlib.Core.Path.{_≡_};
 ghost use Prim.Native.Nat.{_^_, _≤_};
 ghost use lib.Signed.{leZ};
 ghost use Rattle.model.specs.Lists.{at, every};
-ghost use Rattle.model.specs.Calls.{noShares, sharesAnswer};
-ghost use Rattle.chain_ladder.specs.Valid.{Valid, countsAndPaid, incurredAlone};
+ghost use Rattle.model.specs.Calls.{refusedShares, sharesAnswer};
+ghost use Rattle.chain_ladder.specs.Valid.{Amounts};
 ghost use Rattle.chain_ladder.specs.Sums.{Small};
 ghost use Rattle.chain_ladder.specs.Developed.{noDeveloped, developed, noIncurred, incurredOf};
 
@@ -74,8 +74,8 @@ fn refused(number: u64) -> Developed
 
 // Questions 9 to 11, and the chain ladder of counts and of paid. Neither's g rises above S or falls with the delay: all are in bounds where g(0) is.
 pub fn develop<'a>(counts: &'a [i64; 400], paid: &'a [i64; 400], m: usize) -> Developed
-    requires { ⌜ Valid m (countsAndPaid (now counts) (now paid)) ⌝ }
-    ensures { λ r. ⌜ r ≡ developed m (countsAndPaid (now (counts .entry)) (now (paid .entry))) ⌝ }
+    requires { ⌜ Amounts m (10 ^ 7) (now counts) × Amounts m (10 ^ 10) (now paid) ⌝ }
+    ensures { λ r. ⌜ r ≡ developed m (now (counts .entry)) (now (paid .entry)) ⌝ }
 {
     let count_sums = sums::sums(counts, m);
     let rows = count_sums.latest;
@@ -115,7 +115,7 @@ fn no_incurred() -> Incurred
 // Question 13, and the ultimates of incurred.
 pub fn incurred_ultimates(incurred: &[i64; 400], m: usize) -> Incurred
     requires { ⌜ (1 ≤ m) × Small m (10 ^ 10) (now incurred) ⌝ }
-    ensures { λ r. ⌜ r ≡ incurredOf m (incurredAlone (now (incurred .entry))) ⌝ }
+    ensures { λ r. ⌜ r ≡ incurredOf m (now (incurred .entry)) ⌝ }
 {
     let sums = sums::sums(incurred, m);
     let a = sums.a;
@@ -142,8 +142,8 @@ pub fn incurred_ultimates(incurred: &[i64; 400], m: usize) -> Incurred
 }
 
 // A refusal, with zeros beside it.
-fn no_shares(number: u64) -> model::SharesAnswer
-    ensures { λ r. ⌜ r ≡ noShares number ⌝ }
+fn refused_shares(number: u64) -> model::SharesAnswer
+    ensures { λ r. ⌜ r ≡ refusedShares number ⌝ }
 {
     let zeros = [0i64; 20];
     model::SharesAnswer {
@@ -162,11 +162,11 @@ pub fn shares(file: &[u8], m: usize) -> model::SharesAnswer
 {
     let read = triangles::read_set(file, m);
     if read.refusal != 0 {
-        return no_shares(read.refusal);
+        return refused_shares(read.refusal);
     }
     let developed = develop(&read.set.counts, &read.set.paid, m);
     if developed.refusal != 0 {
-        return no_shares(developed.refusal);
+        return refused_shares(developed.refusal);
     }
     let counts = developed.counts;
     let paid = developed.paid;

@@ -9,15 +9,15 @@ use lib.Ieee.{Float, nan, binary64, div}
 use Rattle.integers.specs.Parts.{_⋖_}
 use Rattle.model.specs.Lists.{at, listed}
 use Rattle.model.specs.RowBases.{isZero}
-use Rattle.model.specs.ClaimCosts.{noFloat, meanCost, claimCosts, noClaimCosts}
+use Rattle.model.specs.ClaimCosts.{noFloat, meanCost, claimCosts}
 use Rattle.model.specs.Questions.{firstNo, ofShares}
-use Rattle.model.specs.Calls.{ifAccepted}
+use Rattle.model.specs.Calls.{ifAccepted, acceptedClaimCosts, refusedClaimCosts}
 use Rattle.model.specs.declared.TriangleSet.{TriangleSet}
 use Rattle.model.specs.declared.ClaimCostsAnswer.{ClaimCostsAnswer}
 use Rattle.model.specs.declared.Inflation.{Inflation}
 use Rattle.model.specs.declared.Inflation.the-variants.{BaseYear, NoPaymentsYet, Ratio}
 
--- "two whole numbers held exactly": both below 2^53 in size, and the divisor above zero
+-- two whole numbers that binary64 holds exactly, both below 2^53 in size, the divisor above zero
 pub record Exact (x y : ℤ) : Type 0 where
   pub over : natAbs x < 2 ^ 53
   pub under : natAbs y < 2 ^ 53
@@ -42,4 +42,4 @@ inflationOf i u cost mu = cond (eqb i 1) BaseYear (cond (isZero u) NoPaymentsYet
 
 -- the claim costs, or the number of the first of questions 9 to 11 that gets a no
 unfoldable pub costsOfSet : ℕ → TriangleSet → ClaimCostsAnswer
-costsOfSet m s = let n = firstNo (ofShares m s) in record { refusal = n; costs = ifAccepted n (claimCosts m s) noClaimCosts }
+costsOfSet m s = let n = firstNo (ofShares m (s .counts) (s .paid)) in ifAccepted n (acceptedClaimCosts (claimCosts m s)) (refusedClaimCosts n)

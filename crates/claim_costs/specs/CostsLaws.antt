@@ -1,9 +1,8 @@
 -- Laws of Costs: in an accepted set every number that is divided is held exactly, and every divisor is above zero. Assumes nothing.
-use mathlib.Core.Path.{_≡_, sym, _∙_, ap₂}
+use mathlib.Core.Path.{_≡_, sym, _∙_, ap, ap₂}
 use mathlib.Core.List.{List}
 use Prim.Native.Nat.{ℕ, suc, _-_, _≤_, _<_}
 use native.Mathlib.Omega.{arith}
-use borrow.Author.Tests.{ne-eqb}
 use lib.Dec.{T}
 use lib.IntN.{ℤ}
 use lib.Ieee.{Float, nan}
@@ -11,10 +10,11 @@ use lib.Ieee.Positive.{positive}
 use Rattle.model.specs.Lists.{at, listed}
 use Rattle.model.specs.ListsLaws.{getD-listed, listed-ext}
 use Rattle.model.specs.Shares.{A, B, ultimate, ultimates}
-use Rattle.model.specs.ClaimCosts.{quotient, noFloat, meanCost, factor, inflation, yearInflation, claimCosts, noClaimCosts}
+use Rattle.model.specs.ClaimCosts.{quotient, noFloat, meanCost, factor, inflation, yearInflation, claimCosts}
 use Rattle.model.specs.Records.{setOf}
 use Rattle.model.specs.Questions.{firstNo, ofShares}
-use Rattle.model.specs.Calls.{readRefusal, claimCostsAnswer}
+use Rattle.model.specs.Calls.{readRefusal, acceptedClaimCosts, refusedClaimCosts, claimCostsAnswer}
+use Rattle.model.specs.CallsLaws.{if-accepted, if-refused}
 use Rattle.model.specs.declared.TriangleSet.{TriangleSet}
 use Rattle.model.specs.declared.YearInflation.{YearInflation}
 use Rattle.model.specs.declared.Inflation.the-variants.{NoPaymentsYet}
@@ -22,48 +22,47 @@ use Rattle.chain_ladder.specs.SharesLaws.{at-ultimates, A-pos}
 use Rattle.chain_ladder.specs.Sums.{aSums, bSums}
 use Rattle.chain_ladder.specs.SumsLaws.{A-small, B-small}
 use Rattle.chain_ladder.specs.UltimatesLaws.{ultimate-small, ultimate-pos, first-latest}
-use Rattle.chain_ladder.specs.Valid.{Valid, least, few, paid-small}
 use Rattle.chain_ladder.specs.LadderLaws.{at-aSums, at-bSums}
-use Rattle.chain_ladder.specs.DevelopedLaws.{all-shares, rows-9, counts-sized, counts-sound, paid-sound, counts-bounds, paid-bounds}
+use Rattle.chain_ladder.specs.DevelopedLaws.{Shared, counts-sized, counts-rows, counts-sound, paid-sound, counts-bounds, paid-bounds}
 use Rattle.chain_ladder.specs.SharesCall.{shares-first, shares-after}
 use Rattle.claim_costs.specs.Costs.{Exact, AllExact, meanCosts, costAt, inflationOf, costsOfSet}
 use Rattle.claim_costs.specs.QuotientLaws.{quotient-positive}
 
-module _ (m : ℕ) (s : TriangleSet) (valid : Valid m s) (accepted : firstNo (ofShares m s) ≡ 0) where
+-- of counts c and paid d that pass questions 9 to 11
+module _ {m : ℕ} {c d : List ℤ} (h : Shared m c d) where
+  abbrev most : m ≤ 20
+  most = h .counts .small .few
+
   -- U(i) and N(i): N(i) is at least 1
-  pub cost-exact : (i : ℕ) → 1 ≤ i → i ≤ m → Exact (ultimate m (s .paid) i) (ultimate m (s .counts) i)
-  cost-exact i h l = record {
-    over = omega (arith, ultimate-small m (s .paid) (paid-small m s valid) (paid-bounds m s valid accepted) i h l);
-    under = omega (arith, ultimate-small m (s .counts) (counts-sized m s valid) (counts-bounds m s valid accepted) i h l);
-    divisor = ultimate-pos m (s .counts) (counts-sound m s valid accepted) i h l (rows-9 m s valid (all-shares m s accepted .0) i h l);
+  pub cost-exact : (i : ℕ) → 1 ≤ i → i ≤ m → Exact (ultimate m d i) (ultimate m c i)
+  cost-exact i k l = record {
+    over = omega (arith, ultimate-small m d (h .paid .small) (paid-bounds h) i k l);
+    under = omega (arith, ultimate-small m c (counts-sized m c (h .counts)) (counts-bounds h) i k l);
+    divisor = ultimate-pos m c (counts-sound h) i k l (counts-rows h i k l);
   }
 
   -- B(j) and A(j) of paid
-  pub factor-exact : (j : ℕ) → 1 ≤ j → j < m → Exact (B m (s .paid) j) (A m (s .paid) j)
-  factor-exact j h l = record {
-    over = omega (arith, B-small m _ (s .paid) (paid-small m s valid) j l);
-    under = omega (arith, A-small m _ (s .paid) (paid-small m s valid) j l);
-    divisor = A-pos m (s .paid) (paid-sound m s valid accepted) j h l;
+  pub factor-exact : (j : ℕ) → 1 ≤ j → j < m → Exact (B m d j) (A m d j)
+  factor-exact j k l = record {
+    over = omega (arith, B-small m _ d (h .paid .small) j l);
+    under = omega (arith, A-small m _ d (h .paid .small) j l);
+    divisor = A-pos m d (paid-sound h) j k l;
   }
 
-  -- mu, which every ratio is divided by: year 1 has payments
-  pub mu-positive : T (positive (meanCost m s 1))
-  unfolding meanCost
-  mu-positive =
-      let two = least m s valid in
-      let paid = paid-sound m s valid accepted in
-      quotient-positive _ _ (cost-exact 1 (omega arith) (omega arith)) (ultimate-pos m (s .paid) paid 1 (omega arith) (omega arith) (first-latest m (s .paid) paid two))
-
   -- the lists that are divided place by place
-  pub costs-exact : AllExact m (ultimates m (s .paid)) (ultimates m (s .counts))
-  costs-exact =
-      let l = few m s valid in
-      record { few = l; places = λ k h. rw (at-ultimates m (s .paid) l k h, at-ultimates m (s .counts) l k h) (cost-exact (suc k) (omega arith) h) }
+  pub costs-exact : AllExact m (ultimates m d) (ultimates m c)
+  costs-exact = record { few = most; places = λ k l. rw (at-ultimates m d most k l, at-ultimates m c most k l) (cost-exact (suc k) (omega arith) l) }
 
-  pub factors-exact : AllExact (m - 1) (bSums m (s .paid)) (aSums m (s .paid))
-  factors-exact =
-      let l = few m s valid in
-      record { few = omega arith; places = λ k h. rw (at-bSums m (s .paid) l k h, at-aSums m (s .paid) l k h) (factor-exact (suc k) (omega arith) (omega arith)) }
+  pub factors-exact : AllExact (m - 1) (bSums m d) (aSums m d)
+  factors-exact = record { few = omega (arith, most); places = λ k l. rw (at-bSums m d most k l, at-aSums m d most k l) (factor-exact (suc k) (omega arith) (omega arith)) }
+
+-- mu, which every ratio is divided by: year 1 has payments
+pub mu-positive : (m : ℕ) (s : TriangleSet) → Shared m (s .counts) (s .paid) → T (positive (meanCost m s 1))
+unfolding meanCost
+mu-positive m s h =
+    let two = h .counts .least in
+    quotient-positive _ _ (cost-exact h 1 (omega arith) (omega arith))
+    (ultimate-pos m (s .paid) (paid-sound h) 1 (omega arith) (omega arith) (first-latest m (s .paid) (paid-sound h) two))
 
 -- ---- from the lists to the set
 module _ (m : ℕ) (s : TriangleSet) (few : m ≤ 20) where
@@ -86,21 +85,24 @@ module _ (m : ℕ) (s : TriangleSet) (few : m ≤ 20) where
 
 -- ---- the answers by the refusal's number
 module _ (m : ℕ) (s : TriangleSet) where
-  pub set-no : (n : ℕ) → firstNo (ofShares m s) ≡ n → (n ≡ 0 → ⊥) → costsOfSet m s ≡ record { refusal = n; costs = noClaimCosts }
+  abbrev asked : ℕ
+  asked = firstNo (ofShares m (s .counts) (s .paid))
+
+  pub set-no : (n : ℕ) → asked ≡ n → (n ≡ 0 → ⊥) → costsOfSet m s ≡ refusedClaimCosts n
   unfolding costsOfSet
-  set-no n e o = rw (e, ne-eqb n 0 o)
+  set-no n e o = if-refused _ _ _ (λ z. o (sym e ∙ z)) ∙ ap refusedClaimCosts e
 
   -- the claim costs by their parts
-  pub set-yes : firstNo (ofShares m s) ≡ 0 → {mu : Float} {factors : List Float} {inflations : List YearInflation}
+  pub set-yes : asked ≡ 0 → {mu : Float} {factors : List Float} {inflations : List YearInflation}
       → mu ≡ claimCosts m s .mu → factors ≡ claimCosts m s .factors → inflations ≡ claimCosts m s .inflations
-      → record { refusal = 0; costs = record { mu = mu; factors = factors; inflations = inflations } } ≡ costsOfSet m s
+      → acceptedClaimCosts (record { mu = mu; factors = factors; inflations = inflations }) ≡ costsOfSet m s
   unfolding costsOfSet
-  set-yes e p q r = rw (e, p, q, r)
+  set-yes e p q r = rw (p, q, r) (sym (if-accepted _ _ _ e))
 
 module _ (m : ℕ) (f : List ℕ) where
-  pub file-no : (n : ℕ) → readRefusal m f ≡ n → (n ≡ 0 → ⊥) → claimCostsAnswer m f ≡ record { refusal = n; costs = noClaimCosts }
+  pub file-no : (n : ℕ) → readRefusal m f ≡ n → (n ≡ 0 → ⊥) → claimCostsAnswer m f ≡ refusedClaimCosts n
   unfolding claimCostsAnswer
-  file-no n e o = rw (shares-first m f (λ z. o (sym e ∙ z)), e, ne-eqb n 0 o)
+  file-no n e o = let k = shares-first m f (λ z. o (sym e ∙ z)) ∙ e in if-refused _ _ _ (λ z. o (sym k ∙ z)) ∙ ap refusedClaimCosts k
 
   pub file-yes : readRefusal m f ≡ 0 → claimCostsAnswer m f ≡ costsOfSet m (setOf m f)
   unfolding claimCostsAnswer costsOfSet

@@ -1,4 +1,4 @@
-// The claim costs of a file, document 01's "Claim-cost card": mu, the factors of paid, and the inflations.
+// The claim costs of a file (01, Claim-cost card): mu, the factors of paid, and the inflations.
 use model::Inflation;
 use model::YearInflation;
 ghost use mathlib.Core.Path.{_≡_};
@@ -6,8 +6,8 @@ ghost use Prim.Native.Nat.{suc, _≤_};
 ghost use lib.Dec.{T};
 ghost use lib.Ieee.Positive.{positive};
 ghost use Rattle.model.specs.Lists.{at, listed};
-ghost use Rattle.model.specs.ClaimCosts.{quotient, noFloat, yearInflation, noClaimCosts};
-ghost use Rattle.model.specs.Calls.{claimCostsAnswer};
+ghost use Rattle.model.specs.ClaimCosts.{quotient, noFloat, yearInflation};
+ghost use Rattle.model.specs.Calls.{refusedClaimCosts, claimCostsAnswer};
 ghost use Rattle.model.specs.declared.Inflation.the-variants.{NoPaymentsYet};
 ghost use Rattle.chain_ladder.specs.Valid.{Valid};
 ghost use Rattle.claim_costs.specs.Costs.{Exact, AllExact, costAt, inflationOf, costsOfSet};
@@ -73,7 +73,7 @@ fn inflations(ultimates: [i64; 20], costs: [f64; 20], mu: f64, m: usize) -> [Yea
 
 // A refusal, with zeros and "no payments yet" beside it.
 fn refused(number: u64) -> model::ClaimCostsAnswer
-    ensures { λ r. ⌜ r ≡ record { refusal = number; costs = noClaimCosts } ⌝ }
+    ensures { λ r. ⌜ r ≡ refusedClaimCosts number ⌝ }
 {
     let none = YearInflation {
         value: Inflation::NoPaymentsYet,

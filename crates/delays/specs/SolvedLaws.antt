@@ -12,11 +12,8 @@ use Rattle.model.specs.Lists.{at}
 use Rattle.model.specs.Rounding.{S}
 use Rattle.model.specs.Shares as Shares
 use Rattle.model.specs.Shares.{bList}
-use Rattle.model.specs.Questions.{firstNo, ofShares}
-use Rattle.model.specs.declared.TriangleSet.{TriangleSet}
 use Rattle.chain_ladder.specs.SharesLaws.{at-bList, shares-sum, share-range}
-use Rattle.chain_ladder.specs.Valid.{Valid, few}
-use Rattle.chain_ladder.specs.DevelopedLaws.{some, all-shares, least-counts, counts-sound, paid-sound}
+use Rattle.chain_ladder.specs.DevelopedLaws.{Shared, counts-least, counts-sound, paid-sound}
 use Rattle.delays.specs.Solved.{Solvable, Weighed, Next}
 
 module _ (l : ℕ) (b p : List ℤ) (w : Weighed l b p) where
@@ -67,15 +64,16 @@ module _ (m : ℕ) (b q : List ℤ) (s : Solvable m b q) (l : ℕ) (h : l < m) w
         target = natAbs-mono (s .targets l h .0) (s .targets l h .1);
       }
 
--- the shares of an accepted set
-module _ (m : ℕ) (s : TriangleSet) (valid : Valid m s) (accepted : firstNo (ofShares m s) ≡ 0) where
-  pub solvable : Solvable m (bList m (s .counts)) (bList m (s .paid))
-  unfolding Shares.b
-  solvable =
-      record {
-        few = few m s valid;
-        first = rw (at-bList m (s .counts) (few m s valid) 0 (some m s valid)) (least-counts m s valid (all-shares m s accepted .2));
-        shares = λ k h. rw (at-bList m (s .counts) (few m s valid) k h) (share-range m (s .counts) (counts-sound m s valid accepted) k h .0);
-        whole = sum-cong m (at-bList m (s .counts) (few m s valid)) ∙ shares-sum m (s .counts) (some m s valid);
-        targets = λ l h. rw (at-bList m (s .paid) (few m s valid) l h) (share-range m (s .paid) (paid-sound m s valid accepted) l h);
-      }
+-- the shares of counts and paid that pass questions 9 to 11
+pub solvable : {m : ℕ} {c d : List ℤ} → Shared m c d → Solvable m (bList m c) (bList m d)
+unfolding Shares.b
+solvable {m} {c} {d} h =
+    let few = h .counts .small .few in
+    let some : 1 ≤ m = (let l = h .counts .least in omega arith) in
+    record {
+      few = few;
+      first = rw (at-bList m c few 0 some) (counts-least h);
+      shares = λ k l. rw (at-bList m c few k l) (share-range m c (counts-sound h) k l .0);
+      whole = sum-cong m (at-bList m c few) ∙ shares-sum m c some;
+      targets = λ l k. rw (at-bList m d few l k) (share-range m d (paid-sound h) l k);
+    }

@@ -1,13 +1,15 @@
-// The delays of a set, document 01's "Delays", and question 12.
-
+// The delays of a set (01, Delays), question 12, and all that the methods share.
+use chain_ladder::Development;
 ghost use mathlib.Core.Path.{_≡_};
-ghost use Prim.Native.Nat.{suc, _-_};
+ghost use Prim.Native.Nat.{suc, _-_, _^_};
 ghost use lib.IntN.{_*ℤ_};
 ghost use Rattle.integers.specs.Sums.{sum};
 ghost use Rattle.model.specs.Lists.{at};
 ghost use Rattle.model.specs.Delays.{delayAfter};
-ghost use Rattle.model.specs.Calls.{zeros, delaysAnswer};
+ghost use Rattle.model.specs.Calls.{refusedDelays, delaysAnswer};
+ghost use Rattle.chain_ladder.specs.Valid.{Amounts};
 ghost use Rattle.delays.specs.Solved.{Weighed, Next, Solvable, unsolved, solvedOf};
+ghost use Rattle.delays.specs.Prepared.{unprepared, prepared};
 
 // The delays, p(l) at place l, where `ok` says that question 12 got a yes; else zeros.
 pub struct Solved {
@@ -74,9 +76,63 @@ pub fn solve(m: usize, b: [i64; 20], q: [i64; 20]) -> Solved
     Solved { ok: true, p }
 }
 
+// What a set's cells need that no method changes: the chain ladder of counts and of paid, and the
+// delays. A refusal of 0 says that questions 9 to 12 got a yes; beside another stand zeros.
+pub struct Prepared {
+    pub refusal: u64,
+    pub counts: Development,
+    pub paid: Development,
+    pub p: [i64; 20],
+}
+
+// A refusal, with zeros beside it.
+fn not_prepared(number: u64) -> Prepared
+    ensures { λ r. ⌜ r ≡ unprepared number ⌝ }
+{
+    let none = [0i64; 20];
+    let nothing = Development {
+        latest: none,
+        g: none,
+        shares: none,
+        ultimates: none,
+    };
+    Prepared {
+        refusal: number,
+        counts: nothing,
+        paid: nothing,
+        p: none,
+    }
+}
+
+// Questions 9 to 12 of counts and paid, their chain ladder and their delays.
+pub fn prepare<'a>(counts: &'a [i64; 400], paid: &'a [i64; 400], m: usize) -> Prepared
+    requires { ⌜ Amounts m (10 ^ 7) (now counts) × Amounts m (10 ^ 10) (now paid) ⌝ }
+    ensures { λ r. ⌜ r ≡ prepared m (now (counts .entry)) (now (paid .entry)) ⌝ }
+{
+    let d = chain_ladder::develop(counts, paid, m);
+    if d.refusal != 0 {
+        return not_prepared(d.refusal);
+    }
+    let counts = d.counts;
+    let paid = d.paid;
+    let b = counts.shares;
+    let q = paid.shares;
+    let solved = solve(m, b, q);
+    if !solved.ok {
+        return not_prepared(12);
+    }
+    let p = solved.p;
+    Prepared {
+        refusal: 0,
+        counts,
+        paid,
+        p,
+    }
+}
+
 // A refusal, with zeros beside it.
 fn refused(number: u64) -> model::DelaysAnswer
-    ensures { λ r. ⌜ r ≡ record { refusal = number; p = zeros 20 } ⌝ }
+    ensures { λ r. ⌜ r ≡ refusedDelays number ⌝ }
 {
     model::DelaysAnswer {
         refusal: number,
@@ -88,16 +144,14 @@ fn refused(number: u64) -> model::DelaysAnswer
 pub fn delays(file: &[u8], m: usize) -> model::DelaysAnswer
     ensures { λ r. ⌜ r ≡ delaysAnswer m (now (file .entry)) ⌝ }
 {
-    let shares = chain_ladder::shares(file, m);
-    if shares.refusal != 0 {
-        return refused(shares.refusal);
+    let read = triangles::read_set(file, m);
+    if read.refusal != 0 {
+        return refused(read.refusal);
     }
-    let b = shares.b;
-    let q = shares.q;
-    let solved = solve(m, b, q);
-    if !solved.ok {
-        return refused(12);
+    let ready = prepare(&read.set.counts, &read.set.paid, m);
+    if ready.refusal != 0 {
+        return refused(ready.refusal);
     }
-    let p = solved.p;
+    let p = ready.p;
     model::DelaysAnswer { refusal: 0, p }
 }

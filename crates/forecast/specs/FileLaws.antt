@@ -1,26 +1,25 @@
 -- Laws of the forecast of a file: its refusal question by question, and its whole contract, demand 3 among it, from the forecast of the set. Assumes nothing.
 use mathlib.Core.Path.{_≡_, refl, sym, _∙_, ap}
-use mathlib.Core.Bool.{Bool, true, false}
-use mathlib.Core.List.{List, [], _∷_, _++_, append-assoc}
-use Prim.Native.Nat.{ℕ, zero, suc, _≤_, _<_}
-use lib.Dec.{leb}
-use native.Mathlib.Omega.{arith}
-use borrow.Author.Tests.{ne-eqb, le-leb, lt-leb, leb-true, leb-false}
+use mathlib.Core.Bool.{true, false}
+use mathlib.Core.List.{List}
+use Prim.Native.Nat.{ℕ, _≤_, _<_}
+use borrow.Author.Tests.{le-leb, lt-leb, leb-true}
 use lib.IntN.{ℤ}
 use lib.ListN.{length}
 use Rattle.model.specs.Records.{setOf, hasIncurred}
 use Rattle.model.specs.Delays.{delaysOf}
 use Rattle.model.specs.Cells.{size, outputFrom}
 use Rattle.model.specs.PaidReserve.{NearReserves}
-use Rattle.model.specs.Questions.{Question, q6, q7, firstNo, ofFile, ofForecast}
-use Rattle.model.specs.QuestionsLaws.{yes-first, no-first}
-use Rattle.model.specs.Calls.{zeros, readRefusal, forecastRefusal, forecastAnswer, forecastOutput, Forecasted}
+use Rattle.model.specs.Questions.{q6, q7, ofForecast}
+use Rattle.model.specs.Calls.{readRefusal, refusedForecast, forecastRefusal, forecastAnswer, forecastOutput, Forecasted}
+use Rattle.model.specs.CallsLaws as CallsLaws
+use Rattle.model.specs.CallsLaws.{if-accepted, if-refused, number-of}
 use Rattle.model.specs.declared.TriangleSet.{TriangleSet}
 use Rattle.model.specs.declared.ForecastAnswer.{ForecastAnswer}
-use Rattle.chain_ladder.specs.Accepted.{valid-set, file-no, file-yes}
+use Rattle.chain_ladder.specs.Accepted.{valid-set}
 use Rattle.paid_reserve.specs.Demand3.{demand-3}
-use Rattle.forecast.specs.Prepared.{setRefusal, setAnswer, setOutput}
-use Rattle.forecast.specs.SetLaws.{shares-passed}
+use Rattle.forecast.specs.SetForecast.{setRefusal, setAnswer, setOutput}
+use Rattle.forecast.specs.SetForecastLaws.{set-so, set-shared}
 
 module _ (m : ℕ) (f : List ℕ) (method basis : ℕ) (before : List ℤ) where
   abbrev s : TriangleSet
@@ -29,77 +28,59 @@ module _ (m : ℕ) (f : List ℕ) (method basis : ℕ) (before : List ℤ) where
   abbrev refusal : ℕ
   refusal = forecastRefusal m f method basis (length before)
 
+  abbrev six : Type 0
+  six = q6 (hasIncurred m f) method basis ≡ true
+
   -- ---- the refusal, question by question
-  after : List Question
-  after = (6, q6 (hasIncurred m f) method basis) ∷ (7, q7 m (length before)) ∷ ofForecast m s (delaysOf m s) method
-
-  in-order : refusal ≡ firstNo (ofFile m f ++ after)
-  unfolding forecastRefusal after
-  in-order = ap firstNo (append-assoc (ofFile m f) ((6, q6 (hasIncurred m f) method basis) ∷ (7, q7 m (length before)) ∷ []) (ofForecast m s (delaysOf m s) method))
-
   pub by-file : (readRefusal m f ≡ 0 → ⊥) → refusal ≡ readRefusal m f
-  by-file n = in-order ∙ file-no m f after n
+  unfolding forecastRefusal
+  by-file = CallsLaws.by-file m f _ _
 
-  module _ (read : readRefusal m f ≡ 0) where
-    pub by-method : q6 (hasIncurred m f) method basis ≡ false → refusal ≡ 6
-    unfolding after
-    by-method e = in-order ∙ file-yes m f after read ∙ no-first 6 _ _ e
+  pub by-six : readRefusal m f ≡ 0 → q6 (hasIncurred m f) method basis ≡ false → refusal ≡ 6
+  unfolding forecastRefusal
+  by-six = CallsLaws.no-6 m f method basis 6 (q7 m (length before)) (ofForecast m s (delaysOf m s) method)
 
-    module _ (six : q6 (hasIncurred m f) method basis ≡ true) where
-      pub by-room : length before < size m → refusal ≡ 7
-      unfolding after q7
-      by-room h = in-order ∙ file-yes m f after read ∙ yes-first 6 _ _ six ∙ no-first 7 _ _ (lt-leb (size m) (length before) h)
+  pub by-room : readRefusal m f ≡ 0 → six → length before < size m → refusal ≡ 7
+  unfolding forecastRefusal q7
+  by-room read ok h =
+      CallsLaws.no-next m f method basis 6 (q7 m (length before)) (ofForecast m s (delaysOf m s) method) read ok (lt-leb (size m) (length before) h)
 
-      by-set : size m ≤ length before → refusal ≡ setRefusal m s method
-      unfolding after q7 setRefusal
-      by-set h = in-order ∙ file-yes m f after read ∙ yes-first 6 _ _ six ∙ yes-first 7 _ _ (le-leb (size m) (length before) h)
+  by-set : readRefusal m f ≡ 0 → six → size m ≤ length before → refusal ≡ setRefusal m s method
+  unfolding forecastRefusal q7 setRefusal
+  by-set read ok h =
+      CallsLaws.to-set m f method basis 6 (q7 m (length before)) (ofForecast m s (delaysOf m s) method) read ok (le-leb (size m) (length before) h)
+
+  -- what the questions say of an accepted file
+  pub passed : refusal ≡ 0 → (readRefusal m f ≡ 0) × six × (size m ≤ length before) × (setRefusal m s method ≡ 0)
+  unfolding forecastRefusal q7 setRefusal
+  passed z =
+      let a = CallsLaws.settings-so m f method basis 6 (q7 m (length before)) (ofForecast m s (delaysOf m s) method) z in
+      (a .0, a .1, leb-true (size m) (length before) (a .2), a .3)
 
   -- ---- the contract: a refusal leaves the output as it was
-  pub refused : (n : ℕ) → (n ≡ 0 → ⊥) → refusal ≡ n → Forecasted m f method basis before before (record { refusal = n; leftovers = zeros 20 })
+  pub refused : (n : ℕ) → (n ≡ 0 → ⊥) → refusal ≡ n → Forecasted m f method basis before before (refusedForecast n)
   unfolding forecastAnswer forecastOutput
-  refused n o e = record {
-    result = rw (e, ne-eqb n 0 o);
-    output = rw (e, ne-eqb n 0 o);
-    reserve = λ z. absurd (o z);
-  }
+  refused n o e =
+      let no : refusal ≡ 0 → ⊥ = λ z. o (sym e ∙ z) in
+      record {
+        result = sym (if-refused _ _ _ no ∙ ap refusedForecast e);
+        output = sym (if-refused _ _ _ no);
+        reserve = λ z. absurd (o z);
+      }
 
   -- what the set's forecast answers and writes is the file's; and demand 3
-  pub forecasted : readRefusal m f ≡ 0 → q6 (hasIncurred m f) method basis ≡ true → size m ≤ length before
-      → (a : ForecastAnswer) (out : List ℤ) → a ≡ setAnswer m s method → out ≡ setOutput m s method basis before → Forecasted m f method basis before out a
-  unfolding forecastAnswer forecastOutput setAnswer setOutput
-  forecasted read six room a out a-is out-is = record {
-    result = a-is ∙ rw e;
-    output = out-is ∙ rw e;
+  pub forecasted : readRefusal m f ≡ 0 → six → size m ≤ length before → (a : ForecastAnswer) (out : List ℤ)
+      → a ≡ setAnswer m s method → out ≡ setOutput m s method basis before → Forecasted m f method basis before out a
+  unfolding forecastAnswer forecastOutput
+  forecasted read ok room a out a-is out-is = record {
+    result = a-is ∙ rw (by-set read ok room);
+    output = out-is ∙ rw (by-set read ok room);
     reserve = near;
   }
     where
-      e : refusal ≡ setRefusal m s method
-      e = by-set read six room
-
       near : a .refusal ≡ 0 → method ≡ 0 → basis ≡ 1 → NearReserves m (s .paid) out
       near z dcl estimated =
-          let accepted : setRefusal m s method ≡ 0 = sym (ap (λ (x : ForecastAnswer). x .refusal) a-is) ∙ z in
+          let number = ap (λ (x : ForecastAnswer). x .refusal) a-is ∙ number-of (setRefusal m s method) _ _ (λ (x : ForecastAnswer). x .refusal) refl refl in
+          let accepted : setRefusal m s method ≡ 0 = sym number ∙ z in
           let plain : out ≡ outputFrom m s (delaysOf m s) 0 1 before = out-is ∙ rw (accepted, dcl, estimated) in
-          rw plain (demand-3 m s before (valid-set m f read) (shares-passed m s method accepted))
-
-  -- what the questions say of an accepted file
-  abbrev Passed : Type 0
-  Passed = (readRefusal m f ≡ 0) × (q6 (hasIncurred m f) method basis ≡ true) × (size m ≤ length before) × (setRefusal m s method ≡ 0)
-
-  pub passed : refusal ≡ 0 → Passed
-  passed z = by-read (readRefusal m f) refl
-    where
-      no : (n : ℕ) → refusal ≡ suc n → ⊥
-      no n e = omega arith
-
-      by-room-asked : readRefusal m f ≡ 0 → q6 (hasIncurred m f) method basis ≡ true → (t : Bool) → leb (size m) (length before) ≡ t → Passed
-      by-room-asked read six true e = let h = leb-true (size m) (length before) e in (read, six, h, sym (by-set read six h) ∙ z)
-      by-room-asked read six false e = absurd (no 6 (by-room read six (leb-false (size m) (length before) e)))
-
-      by-six : readRefusal m f ≡ 0 → (t : Bool) → q6 (hasIncurred m f) method basis ≡ t → Passed
-      by-six read true e = by-room-asked read e (leb (size m) (length before)) refl
-      by-six read false e = absurd (no 5 (by-method read e))
-
-      by-read : (n : ℕ) → readRefusal m f ≡ n → Passed
-      by-read zero e = by-six e (q6 (hasIncurred m f) method basis) refl
-      by-read (suc n) e = absurd (no n (by-file (λ y. omega arith) ∙ e))
+          rw plain (demand-3 m s before (set-shared m s method (valid-set m f read) (set-so m s method accepted .0)))

@@ -1,8 +1,5 @@
--- Method: the row bases of a set under a method. Prepared: what the cells of a set are made of, and its forecast. FileLaws: the forecast of a file.
-pub mod Method
-pub mod MethodLaws
-pub mod Prepared
-pub mod PreparedLaws
-pub mod SetLaws
+-- SetForecast: the forecast of a set, and of what is prepared of it. FileLaws: the forecast of a file.
+pub mod SetForecast
+pub mod SetForecastLaws
 pub mod FileLaws
 pub mod SmallEntries

@@ -21,22 +21,27 @@ use Rattle.model.specs.Calls.{forecastRefusal, forecastOutput}
 use Rattle.chain_ladder.specs.Accepted.{valid-set}
 use Rattle.chain_ladder.specs.Valid.{Valid, few, least}
 use Rattle.cells.specs.SmallLaws.{rbns-small, ibnr-small}
-use Rattle.forecast.specs.Prepared.{setRefusal}
+use Rattle.delays.specs.Prepared.{preparedRefusal}
+use Rattle.forecast.specs.SetForecast.{methodRefusal, setRefusal}
 use Rattle.forecast.specs.FileLaws.{passed}
-use Rattle.forecast.specs.SetLaws.{set-weights, set-shares, set-delays, set-bases}
+use Rattle.forecast.specs.SetForecastLaws.{set-so, set-asked, set-delays, set-weights, set-shares, set-bases}
 
 module _ (m : ℕ) (s : TriangleSet) (method basis : ℕ) (valid : Valid m s) (six : q6 (s .«has_incurred») method basis ≡ true) (accepted : setRefusal m s method ≡ 0) where
   known-or : (t : Bool) (z : ℤ) → natAbs z ≤ 2 * 10 ^ 15 → natAbs (cond t (pos 0) z) ≤ 2 * 10 ^ 15
   known-or true z h = omega arith
   known-or false z h = h
 
+  passes : (preparedRefusal m (s .counts) (s .paid) ≡ 0) × (methodRefusal m s method ≡ 0)
+  passes = set-so m s method accepted
+
   cell-small : (i j : ℕ) → 1 ≤ i → i ≤ m → (natAbs (rbns m s (delaysOf m s) method basis i j) ≤ 2 * 10 ^ 15) × (natAbs (ibnr m s (delaysOf m s) method i j) ≤ 2 * 10 ^ 15)
   unfolding rbns ibnr
   cell-small i j h l =
-      let v = set-bases m s method basis valid six accepted i h l in
-      let p = set-delays m s method basis valid six accepted in (
-        known-or (leb (i + j) m) _ (rbns-small m (few m s valid) (rowBase m s method i) v (sList m s basis i) (delaysOf m s) (set-weights m s method basis valid six accepted i h l) p i j),
-        known-or (leb (i + j) m) _ (ibnr-small m (few m s valid) (rowBase m s method i) v (bList m (s .counts)) (delaysOf m s) (set-shares m s method basis valid six accepted) p i j),
+      let a = set-asked m s method valid basis six (passes .0) in
+      let p = set-delays m s method valid (passes .0) in
+      let v = set-bases m s method a (passes .1) (delaysOf m s) p i h l in (
+        known-or (leb (i + j) m) _ (rbns-small m (few m s valid) (rowBase m s method i) v (sList m s basis i) (delaysOf m s) (set-weights m s method a (passes .1) (delaysOf m s) p basis i h l) p i j),
+        known-or (leb (i + j) m) _ (ibnr-small m (few m s valid) (rowBase m s method i) v (bList m (s .counts)) (delaysOf m s) (set-shares m s method a (passes .1) (delaysOf m s) p) p i j),
       )
 
   pub entry-small : (e : ℕ) → e < size m → natAbs (entry m s (delaysOf m s) method basis e) ≤ 2 * 10 ^ 15

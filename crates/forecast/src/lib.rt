@@ -1,15 +1,16 @@
 // The forecast of a set and of a file, under three methods.
-mod method;
 mod set;
 
 use model::ForecastAnswer;
+pub use set::forecast_prepared;
 pub use set::forecast_set;
+use set::refused;
 ghost use mathlib.Core.Path.{_≡_};
 ghost use Rattle.model.specs.Questions.{q6};
-ghost use Rattle.model.specs.Calls.{Forecasted, zeros};
+ghost use Rattle.model.specs.Calls.{Forecasted};
 
 // Question 6.
-pub fn method_known(has_incurred: bool, method: u64, basis: u64) -> bool
+pub fn q6(has_incurred: bool, method: u64, basis: u64) -> bool
     ensures { λ r. ⌜ r ≡ q6 «has_incurred» method basis ⌝ }
 {
     if 2 < method {
@@ -24,18 +25,9 @@ pub fn method_known(has_incurred: bool, method: u64, basis: u64) -> bool
     has_incurred
 }
 
-// A refusal, with zeros beside it.
-fn refused(number: u64) -> ForecastAnswer
-    ensures { λ r. ⌜ r ≡ record { refusal = number; leftovers = zeros 20 } ⌝ }
-{
-    ForecastAnswer {
-        refusal: number,
-        leftovers: [0i64; 20],
-    }
-}
-
-// The forecast of a file, by method (0 DCL, 1 BDCL, 2 IDCL) and basis (0 actual, 1 estimated counts): questions 1 to 7 and 9 to 14. The output's first
-// 2m(2m - 1) entries are the cells; a refusal leaves it as it was.
+// The forecast of a file, by method (0 DCL, 1 BDCL, 2 IDCL) and basis (0 actual, 1 estimated counts):
+// questions 1 to 7 and 9 to 14. The output's first 2m(2m - 1) entries are the cells; a refusal leaves
+// it as it was.
 pub fn forecast(file: &[u8], m: usize, method: u64, basis: u64, out: &mut [i64]) -> ForecastAnswer
     ensures { λ r. ⌜ Forecasted m (now (file .entry)) method basis (now (out .entry)) (now (out .exit)) r ⌝ }
 {
@@ -43,7 +35,7 @@ pub fn forecast(file: &[u8], m: usize, method: u64, basis: u64, out: &mut [i64])
     if read.refusal != 0 {
         return refused(read.refusal);
     }
-    if !method_known(read.set.has_incurred, method, basis) {
+    if !q6(read.set.has_incurred, method, basis) {
         return refused(6);
     }
     if out.len() < 2 * m * (2 * m - 1) {

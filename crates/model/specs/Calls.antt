@@ -15,12 +15,13 @@ use Rattle.model.specs.PaidReserve.{NearReserves}
 use Rattle.model.specs.Calendar.{tallyOf, page, refusalText, firstLine, refusalOf}
 use Rattle.model.specs.ClaimCosts.{claimCosts, noClaimCosts}
 use Rattle.model.specs.BackTest.{cutTo, gap, cellNumber, cellwise, yearwise, overall}
-use Rattle.model.specs.Questions.{firstNo, ofFile, ofShares, ofDelays, ofForecast, q1, q4, q5Writer, q6, q7, q7Writer, q8}
+use Rattle.model.specs.Questions.{Question, firstNo, ofFile, ofShares, ofDelays, ofForecast, q1, q4, q5Writer, q6, q7, q7Writer, q8}
 use Rattle.model.specs.declared.TriangleSet.{TriangleSet}
 use Rattle.model.specs.declared.ReadAnswer.{ReadAnswer}
 use Rattle.model.specs.declared.SharesAnswer.{SharesAnswer}
 use Rattle.model.specs.declared.DelaysAnswer.{DelaysAnswer}
 use Rattle.model.specs.declared.ForecastAnswer.{ForecastAnswer}
+use Rattle.model.specs.declared.ClaimCosts.{ClaimCosts}
 use Rattle.model.specs.declared.ClaimCostsAnswer.{ClaimCostsAnswer}
 use Rattle.model.specs.declared.BackTestAnswer.{BackTestAnswer}
 use Rattle.model.specs.declared.FirstLine.{FirstLine}
@@ -30,11 +31,15 @@ use Rattle.model.specs.declared.FirstLine.the-variants.{Asked, Refused}
 abbrev pub ifAccepted : {A : Type 0} → ℕ → A → A → A
 ifAccepted n accepted refused = cond (eqb n 0) accepted refused
 
--- "On a refusal every value handed back beside the refusal number is 0"
+-- 01, Cell forecasts: what stands beside a refusal is zero
 abbrev pub zeros : ℕ → List ℤ
 zeros n = replicate n (pos 0)
 
--- ---- the reader: "The reader by itself takes 1 to 5."
+-- the refusal of a call on a file: questions 1 to 5, then the call's own, then those of the set
+unfoldable pub callRefusal : ℕ → List ℕ → List Question → List Question → ℕ
+callRefusal m f own ofSet = firstNo (ofFile m f ++ (own ++ ofSet))
+
+-- ---- the reader: questions 1 to 5
 
 unfoldable pub readRefusal : ℕ → List ℕ → ℕ
 readRefusal m f = firstNo (ofFile m f)
@@ -42,28 +47,34 @@ readRefusal m f = firstNo (ofFile m f)
 abbrev pub noSet : TriangleSet
 noSet = record { «has_incurred» = false; counts = zeros 400; paid = zeros 400; incurred = zeros 400 }
 
-unfoldable pub readAnswer : ℕ → List ℕ → ReadAnswer
-readAnswer m f = let n = readRefusal m f in record { refusal = n; set = ifAccepted n (setOf m f) noSet }
+abbrev pub acceptedRead : TriangleSet → ReadAnswer
+acceptedRead s = record { refusal = 0; set = s }
 
--- ---- the writer: "The writer takes 1, 5 and 7"
+abbrev pub refusedRead : ℕ → ReadAnswer
+refusedRead n = record { refusal = n; set = noSet }
+
+unfoldable pub readAnswer : ℕ → List ℕ → ReadAnswer
+readAnswer m f = let n = readRefusal m f in ifAccepted n (acceptedRead (setOf m f)) (refusedRead n)
+
+-- ---- the writer: questions 1, 5 and 7
 
 unfoldable pub writeRefusal : ℕ → Bool → List ℤ → List ℤ → List ℤ → ℕ → ℕ
 writeRefusal m hasIncurred c d e room = firstNo ((1, q1 m) ∷ (5, q5Writer m hasIncurred c d e) ∷ (7, q7Writer m hasIncurred room) ∷ [])
 
--- The output before and after, and the refusal number n. The order of the records is free; what holds of the bytes is named by the fields:
--- "it writes each cell of the set once and nothing else" (once: question 4 of the bytes written, which are the set's length),
--- "what it writes reads back as that set" (written), "Bytes past the set keep their values" (kept).
+-- The output before and after, and the refusal number n. The order of the records is free (01, Triangle records); what holds of the bytes is named
+-- by the fields: each cell stands there once and the bytes are the set's length, so nothing else does (once); they read back as the set (written);
+-- the bytes past them are as before (kept).
 pub record Wrote (m : ℕ) (hasIncurred : Bool) (c d e : List ℤ) (before after : List ℕ) (n : ℕ) : Type 0 where
   pub result : n ≡ writeRefusal m hasIncurred c d e (length before)
   pub refused : (n ≡ 0 → ⊥) → after ≡ before
   pub once : n ≡ 0 → (length (take (setLength m hasIncurred) after) ≡ setLength m hasIncurred) × (q4 m (take (setLength m hasIncurred) after) ≡ true)
-  pub written : n ≡ 0 → readAnswer m (take (setLength m hasIncurred) after) ≡ record { refusal = 0; set = givenSet m hasIncurred c d e }
+  pub written : n ≡ 0 → readAnswer m (take (setLength m hasIncurred) after) ≡ acceptedRead (givenSet m hasIncurred c d e)
   pub kept : n ≡ 0 → drop (setLength m hasIncurred) after ≡ drop (setLength m hasIncurred) before
 
--- ---- shares and ultimates: "a call that takes 1 to 5 and 9 to 11"
+-- ---- shares and ultimates: questions 1 to 5 and 9 to 11
 
 unfoldable pub sharesRefusal : ℕ → List ℕ → ℕ
-sharesRefusal m f = firstNo (ofFile m f ++ ofShares m (setOf m f))
+sharesRefusal m f = let s = setOf m f in callRefusal m f [] (ofShares m (s .counts) (s .paid))
 
 unfoldable pub sharesOf : ℕ → TriangleSet → SharesAnswer
 sharesOf m s =
@@ -76,56 +87,74 @@ sharesOf m s =
       u = ultimates m (s .paid);
     }
 
-abbrev pub noShares : ℕ → SharesAnswer
-noShares k = record { refusal = k; b = zeros 20; n = zeros 20; q = zeros 20; g = zeros 20; u = zeros 20 }
+abbrev pub refusedShares : ℕ → SharesAnswer
+refusedShares k = record { refusal = k; b = zeros 20; n = zeros 20; q = zeros 20; g = zeros 20; u = zeros 20 }
 
 unfoldable pub sharesAnswer : ℕ → List ℕ → SharesAnswer
-sharesAnswer m f = let n = sharesRefusal m f in ifAccepted n (sharesOf m (setOf m f)) (noShares n)
+sharesAnswer m f = let n = sharesRefusal m f in ifAccepted n (sharesOf m (setOf m f)) (refusedShares n)
 
--- ---- delays: "the delays from one that takes 12 too"
+-- ---- delays: the same questions, and 12
 
 unfoldable pub delaysRefusal : ℕ → List ℕ → ℕ
-delaysRefusal m f = let s = setOf m f in firstNo (ofFile m f ++ ofShares m s ++ ofDelays m (delaysOf m s))
+delaysRefusal m f = let s = setOf m f in callRefusal m f [] (ofShares m (s .counts) (s .paid) ++ ofDelays m (delaysOf m s))
+
+abbrev pub acceptedDelays : List ℤ → DelaysAnswer
+acceptedDelays p = record { refusal = 0; p = p }
+
+abbrev pub refusedDelays : ℕ → DelaysAnswer
+refusedDelays n = record { refusal = n; p = zeros 20 }
 
 unfoldable pub delaysAnswer : ℕ → List ℕ → DelaysAnswer
-delaysAnswer m f = let n = delaysRefusal m f in record { refusal = n; p = ifAccepted n (delaysOf m (setOf m f)) (zeros 20) }
+delaysAnswer m f = let n = delaysRefusal m f in ifAccepted n (acceptedDelays (delaysOf m (setOf m f))) (refusedDelays n)
 
--- ---- the forecast: 1 to 14, without 8
+-- ---- the forecast: questions 1 to 14, without 8
 
 unfoldable pub forecastRefusal : ℕ → List ℕ → ℕ → ℕ → ℕ → ℕ
 forecastRefusal m f method basis room =
     let s = setOf m f in
-    firstNo (ofFile m f ++ ((6, q6 (hasIncurred m f) method basis) ∷ (7, q7 m room) ∷ []) ++ ofForecast m s (delaysOf m s) method)
+    callRefusal m f ((6, q6 (hasIncurred m f) method basis) ∷ (7, q7 m room) ∷ []) (ofForecast m s (delaysOf m s) method)
+
+abbrev pub acceptedForecast : List ℤ → ForecastAnswer
+acceptedForecast l = record { refusal = 0; leftovers = l }
+
+abbrev pub refusedForecast : ℕ → ForecastAnswer
+refusedForecast n = record { refusal = n; leftovers = zeros 20 }
 
 unfoldable pub forecastAnswer : ℕ → List ℕ → ℕ → ℕ → ℕ → ForecastAnswer
 forecastAnswer m f method basis room =
     let n = forecastRefusal m f method basis room in
-    record { refusal = n; leftovers = ifAccepted n (leftovers m (setOf m f) method) (zeros 20) }
+    ifAccepted n (acceptedForecast (leftovers m (setOf m f) method)) (refusedForecast n)
 
--- the output afterwards: "lent memory keeps its entry values" on a refusal
+-- the output afterwards: a refusal leaves it as it was
 unfoldable pub forecastOutput : ℕ → List ℕ → ℕ → ℕ → List ℤ → List ℤ
 forecastOutput m f method basis before =
     let s = setOf m f in
     ifAccepted (forecastRefusal m f method basis (length before)) (outputFrom m s (delaysOf m s) method basis before) before
 
--- What the forecast hands back and leaves in the output. "A file is accepted when every question that the forecast puts gets a yes."; "Plain DCL with
--- estimated counts is method 0, basis 1."
+-- What the forecast hands back and leaves in the output, and demand 3: an accepted file under plain DCL with estimated counts (method 0, basis 1)
+-- comes near its paid reserves.
 pub record Forecasted (m : ℕ) (f : List ℕ) (method basis : ℕ) (before after : List ℤ) (a : ForecastAnswer) : Type 0 where
   pub result : a ≡ forecastAnswer m f method basis (length before)
   pub output : after ≡ forecastOutput m f method basis before
   pub reserve : a .refusal ≡ 0 → method ≡ 0 → basis ≡ 1 → NearReserves m (setOf m f .paid) after
 
--- ---- claim costs: "The card skips 6, 7, 8 and 12 to 14."
+-- ---- claim costs: the questions of the shares
+
+abbrev pub acceptedClaimCosts : ClaimCosts → ClaimCostsAnswer
+acceptedClaimCosts c = record { refusal = 0; costs = c }
+
+abbrev pub refusedClaimCosts : ℕ → ClaimCostsAnswer
+refusedClaimCosts n = record { refusal = n; costs = noClaimCosts }
 
 unfoldable pub claimCostsAnswer : ℕ → List ℕ → ClaimCostsAnswer
-claimCostsAnswer m f = let n = sharesRefusal m f in record { refusal = n; costs = ifAccepted n (claimCosts m (setOf m f)) noClaimCosts }
+claimCostsAnswer m f = let n = sharesRefusal m f in ifAccepted n (acceptedClaimCosts (claimCosts m (setOf m f))) (refusedClaimCosts n)
 
--- ---- the back-test: "skips 7; from 9 on it puts the questions to the cut set"
+-- ---- the back-test: questions 1 to 6 and 8, then 9 to 14 of the cut set
 
 unfoldable pub backTestRefusal : ℕ → List ℕ → ℕ → ℕ → ℕ → ℕ
 backTestRefusal m f c method basis =
     let s = cutTo (m - c) (setOf m f) in
-    firstNo (ofFile m f ++ ((6, q6 (hasIncurred m f) method basis) ∷ (8, q8 m c) ∷ []) ++ ofForecast (m - c) s (delaysOf (m - c) s) method)
+    callRefusal m f ((6, q6 (hasIncurred m f) method basis) ∷ (8, q8 m c) ∷ []) (ofForecast (m - c) s (delaysOf (m - c) s) method)
 
 unfoldable pub backTestOf : ℕ → TriangleSet → ℕ → ℕ → ℕ → BackTestAnswer
 backTestOf m s c method basis =
@@ -134,10 +163,13 @@ backTestOf m s c method basis =
     let d : ℕ → ℕ → ℤ = gap m n s p method basis in
     record { refusal = 0; cells = cellNumber c n; cellwise = cellwise n d; yearwise = yearwise n c d; overall = overall n d }
 
+abbrev pub refusedBackTest : ℕ → BackTestAnswer
+refusedBackTest n = record { refusal = n; cells = 0; cellwise = 0; yearwise = 0; overall = 0 }
+
 unfoldable pub backTestAnswer : ℕ → List ℕ → ℕ → ℕ → ℕ → BackTestAnswer
 backTestAnswer m f c method basis =
     let n = backTestRefusal m f c method basis in
-    ifAccepted n (backTestOf m (setOf m f) c method basis) (record { refusal = n; cells = 0; cellwise = 0; yearwise = 0; overall = 0 })
+    ifAccepted n (backTestOf m (setOf m f) c method basis) (refusedBackTest n)
 
 -- ---- the program `closing`: the text that it prints, for the bytes of its standard input
 

@@ -19,6 +19,7 @@ pub mod Questions
 pub mod QuestionsLaws
 pub mod Lengths
 pub mod Calls
+pub mod CallsLaws
 pub mod Agreement
 pub mod Examples
 pub mod Further

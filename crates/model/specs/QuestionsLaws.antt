@@ -1,55 +1,65 @@
 -- Laws of Questions. Assumes nothing.
-use mathlib.Core.Path.{_≡_, refl}
+use mathlib.Core.Path.{_≡_, refl, sym, _∙_}
 use mathlib.Core.Bool.{Bool, true, false, _&&_, cond, and-false}
 use mathlib.Core.List.{List, [], _∷_, _++_}
 use Prim.Native.Nat.{ℕ, suc, _+_, _-_, _≤_}
 use native.Mathlib.Omega.{arith}
-use lib.Dec.{T, leb, eqb}
+use lib.Dec.{leb, eqb}
 use lib.IntN.{ℤ}
 use lib.Signed.{leZ}
-use borrow.Author.Tests.{ne-eqb, leb-true}
+use borrow.Author.Tests.{ne-eqb, eqb-true, eqb-false, leb-true}
 use Rattle.integers.specs.Parts.{_⩽_, _⋖_}
 use Rattle.integers.specs.Order.{le-yes, leZ-true, leZ-false}
 use Rattle.model.specs.Lists.{every}
 use Rattle.model.specs.ListsLaws.{every-at, every-all, and-left, and-right}
 use Rattle.model.specs.Questions.{Question, within, firstNo, eachCell}
+use Rattle.model.specs.Tests.{by-test}
 
-pub none-left : firstNo [] ≡ 0
-unfolding firstNo
-none-left = refl
+-- ---- lists of questions
 
--- a question that gets a yes, and one that gets a no
-pub yes-first : (n : ℕ) (t : Bool) (qs : List Question) → t ≡ true → firstNo ((n, t) ∷ qs) ≡ firstNo qs
-unfolding firstNo
-yes-first n t qs e = rw e
-
-pub no-first : (n : ℕ) (t : Bool) (qs : List Question) → t ≡ false → firstNo ((n, t) ∷ qs) ≡ n
-unfolding firstNo
-no-first n t qs e = rw e
-
--- where no question gets a no, the first gets a yes, and so do the others
-pub all-yes : (n : ℕ) (t : Bool) (qs : List Question) → firstNo ((suc n, t) ∷ qs) ≡ 0 → (t ≡ true) × (firstNo qs ≡ 0)
-unfolding firstNo
-all-yes n true qs e = (refl, e)
-all-yes n false qs e = absurd (omega arith)
+-- each question of a list got a yes: `search` finds a question's answer among the fields, wherever it stands
+abbrev pub EachYes : List Question → Type 0
+EachYes [] = Unit {0}
+EachYes (q ∷ qs) = (q .1 ≡ true) × EachYes qs
 
 -- each question has a number above 0
 unfoldable pub numbered : List Question → Bool
 numbered [] = true
 numbered (q ∷ qs) = leb 1 (q .0) && numbered qs
 
--- the first no of two lists of questions, one after the other
-pub first-append : (xs ys : List Question) → T (numbered xs) → firstNo (xs ++ ys) ≡ cond (eqb (firstNo xs) 0) (firstNo ys) (firstNo xs)
+-- no refusal: each listed question got a yes
+pub each-yes : (qs : List Question) → numbered qs ≡ true → firstNo qs ≡ 0 → EachYes qs
+unfolding firstNo numbered
+each-yes [] h e = tt
+each-yes ((n, true) ∷ qs) h e = (refl, each-yes qs (and-right (leb 1 n) (numbered qs) h) e)
+each-yes ((n, false) ∷ qs) h e = let l = leb-true 1 n (and-left (leb 1 n) (numbered qs) h) in absurd (omega arith)
+
+pub no-refusal : (qs : List Question) → EachYes qs → firstNo qs ≡ 0
+unfolding firstNo
+no-refusal [] h = refl
+no-refusal ((n, t) ∷ qs) h = rw (h .0) (no-refusal qs (h .1))
+
+-- two stages, one after the other
+first-append : (xs ys : List Question) → numbered xs ≡ true → firstNo (xs ++ ys) ≡ cond (eqb (firstNo xs) 0) (firstNo ys) (firstNo xs)
 unfolding firstNo numbered
 first-append [] ys h = refl
-first-append ((n, t) ∷ xs) ys h = by-answer t (leb 1 n) refl h (first-append xs ys)
-  where
-    by-answer : (t u : Bool) → leb 1 n ≡ u → T (u && numbered xs)
-        → (T (numbered xs) → firstNo (xs ++ ys) ≡ cond (eqb (firstNo xs) 0) (firstNo ys) (firstNo xs))
-        → firstNo ((n, t) ∷ (xs ++ ys)) ≡ cond (eqb (firstNo ((n, t) ∷ xs)) 0) (firstNo ys) (firstNo ((n, t) ∷ xs))
-    by-answer true true e k rest = rest k
-    by-answer false true e k rest = let l : 1 ≤ n = leb-true 1 n e in rw (ne-eqb n 0 (λ z. omega arith))
-    by-answer t false e k rest = absurd k
+first-append ((n, true) ∷ xs) ys h = first-append xs ys (and-right (leb 1 n) (numbered xs) h)
+first-append ((n, false) ∷ xs) ys h = let l = leb-true 1 n (and-left (leb 1 n) (numbered xs) h) in rw (ne-eqb n 0 (λ z. omega arith))
+
+module _ (xs ys : List Question) (h : numbered xs ≡ true) where
+  -- the first refuses
+  pub stage-no : (firstNo xs ≡ 0 → ⊥) → firstNo (xs ++ ys) ≡ firstNo xs
+  stage-no o = first-append xs ys h ∙ rw (ne-eqb (firstNo xs) 0 o)
+
+  -- the first passes
+  pub stage-yes : firstNo xs ≡ 0 → firstNo (xs ++ ys) ≡ firstNo ys
+  stage-yes e = first-append xs ys h ∙ rw e
+
+  -- both pass
+  pub stages-so : firstNo (xs ++ ys) ≡ 0 → (firstNo xs ≡ 0) × (firstNo ys ≡ 0)
+  stages-so e =
+      by-test (eqb (firstNo xs) 0) (λ t. let z = eqb-true (firstNo xs) 0 t in (z, sym (stage-yes z) ∙ e))
+      (λ t. let o = eqb-false (firstNo xs) 0 t in absurd (o (sym (stage-no o) ∙ e)))
 
 -- ---- a number between two bounds
 

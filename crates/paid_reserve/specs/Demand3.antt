@@ -16,11 +16,9 @@ use Rattle.model.specs.RowBases.{rowBase}
 use Rattle.model.specs.Cells.{sList, rbns, ibnr, outputFrom}
 use Rattle.model.specs.CellsLaws.{written-rbns, written-ibnr}
 use Rattle.model.specs.PaidReserve.{whole, distance, AtMost, reserve, bound, yearSum, NearReserves}
-use Rattle.model.specs.Questions.{firstNo, ofShares}
 use Rattle.model.specs.declared.TriangleSet.{TriangleSet}
-use Rattle.chain_ladder.specs.DevelopedLaws.{all-shares, sound-counts, sound-paid}
+use Rattle.chain_ladder.specs.DevelopedLaws.{Shared, counts-sound, paid-sound}
 use Rattle.chain_ladder.specs.SharesLaws.{Sound, at-bList, g-range}
-use Rattle.chain_ladder.specs.Valid.{Valid, few, least}
 use Rattle.delays.specs.DelaysLaws.{Solves, solved}
 use Rattle.paid_reserve.specs.YearSum.{cellSum, yearCells}
 use Rattle.paid_reserve.specs.PaidReserve.{any-delays}
@@ -58,7 +56,5 @@ module _ (m : ℕ) (lo : 2 ≤ m) (few : m ≤ 20) (s : TriangleSet) (before : L
     near-solved = near-any (delaysOf m s) (solved b (bList m (s .paid)) m few b-pos)
 
 -- ---- demand 3: of every set that passes questions 9 to 11, as its forecast under method 0, basis 1 is written
-pub demand-3 : (m : ℕ) (s : TriangleSet) (before : List ℤ) → Valid m s → firstNo (ofShares m s) ≡ 0 → NearReserves m (s .paid) (outputFrom m s (delaysOf m s) 0 1 before)
-demand-3 m s before valid passed =
-    let a = all-shares m s passed in
-    near-solved m (least m s valid) (few m s valid) s before (sound-counts m s valid (a .0) (a .2)) (sound-paid m s valid (a .1) (a .2))
+pub demand-3 : (m : ℕ) (s : TriangleSet) (before : List ℤ) → Shared m (s .counts) (s .paid) → NearReserves m (s .paid) (outputFrom m s (delaysOf m s) 0 1 before)
+demand-3 m s before h = near-solved m (h .counts .least) (h .counts .small .few) s before (counts-sound h) (paid-sound h)

@@ -3,12 +3,12 @@ use mathlib.Core.Path.{_≡_}
 use mathlib.Core.List.{List}
 use Prim.Native.Nat.{ℕ}
 use lib.IntN.{ℤ}
-use Rattle.model.specs.Calls.{sharesRefusal, sharesAnswer, delaysRefusal, delaysAnswer, forecastRefusal, forecastAnswer, forecastOutput, claimCostsAnswer, backTestRefusal, backTestAnswer}
+use Rattle.model.specs.Calls.{callRefusal, sharesRefusal, sharesAnswer, delaysRefusal, delaysAnswer, forecastRefusal, forecastAnswer, forecastOutput, claimCostsAnswer, backTestRefusal, backTestAnswer}
 use Rattle.triangles.specs.Order.{SameRecords, hasIncurred-order, questions-order, set-order}
 
 module _ (f g : List ℕ) (same : SameRecords f g) (m : ℕ) where
   shares-refusal-order : sharesRefusal m f ≡ sharesRefusal m g
-  unfolding sharesRefusal
+  unfolding callRefusal sharesRefusal
   shares-refusal-order = rw (questions-order f g same m, set-order f g same m)
 
   pub shares-order : sharesAnswer m f ≡ sharesAnswer m g
@@ -20,7 +20,7 @@ module _ (f g : List ℕ) (same : SameRecords f g) (m : ℕ) where
   claim-costs-order = rw (shares-refusal-order, set-order f g same m)
 
   delays-refusal-order : delaysRefusal m f ≡ delaysRefusal m g
-  unfolding delaysRefusal
+  unfolding callRefusal delaysRefusal
   delays-refusal-order = rw (questions-order f g same m, set-order f g same m)
 
   pub delays-order : delaysAnswer m f ≡ delaysAnswer m g
@@ -29,7 +29,7 @@ module _ (f g : List ℕ) (same : SameRecords f g) (m : ℕ) where
 
   module _ (method basis : ℕ) where
     pub forecast-refusal-order : (room : ℕ) → forecastRefusal m f method basis room ≡ forecastRefusal m g method basis room
-    unfolding forecastRefusal
+    unfolding callRefusal forecastRefusal
     forecast-refusal-order room = rw (questions-order f g same m, hasIncurred-order f g same m, set-order f g same m)
 
     pub forecast-order : (room : ℕ) → forecastAnswer m f method basis room ≡ forecastAnswer m g method basis room
@@ -41,7 +41,7 @@ module _ (f g : List ℕ) (same : SameRecords f g) (m : ℕ) where
     output-order before = rw (forecast-refusal-order _, set-order f g same m)
 
     back-test-refusal-order : (c : ℕ) → backTestRefusal m f c method basis ≡ backTestRefusal m g c method basis
-    unfolding backTestRefusal
+    unfolding callRefusal backTestRefusal
     back-test-refusal-order c = rw (questions-order f g same m, hasIncurred-order f g same m, set-order f g same m)
 
     pub back-test-order : (c : ℕ) → backTestAnswer m f c method basis ≡ backTestAnswer m g c method basis

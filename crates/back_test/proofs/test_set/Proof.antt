@@ -1,5 +1,5 @@
 -- `test_set` meets its contract: the forecast of the cut set, and then the errors. Assumes nothing.
-use mathlib.Core.Path.{_≡_, sym, _∙_, ap}
+use mathlib.Core.Path.{_≡_, refl, sym, _∙_, ap}
 use mathlib.Core.List.{List}
 use Prim.Native.Nat.{ℕ, _-_, _≤_}
 use native.Mathlib.Omega.{arith}
@@ -7,9 +7,10 @@ use borrow.Author.Needs.{needs}
 use lib.IntN.{ℤ}
 use Rattle.model.specs.BackTest.{cutTo}
 use Rattle.model.specs.Calls.{zeros}
+use Rattle.model.specs.CallsLaws.{number-of}
 use Rattle.model.specs.declared.TriangleSet.{TriangleSet}
 use Rattle.model.specs.declared.ForecastAnswer.{ForecastAnswer}
-use Rattle.forecast.specs.Prepared.{setRefusal, setAnswer, setOutput}
+use Rattle.forecast.specs.SetForecast.{setRefusal, setAnswer, setOutput}
 use Rattle.back_test.specs.Gaps.{Forecast, SmallGaps}
 use Rattle.back_test.specs.Gaps as Gaps
 use Rattle.back_test.specs.GapsLaws.{gaps-small}
@@ -47,8 +48,9 @@ module _ (c : tie.After-forecast-set) where
   answer-is = c .forecast-set .ensures .0
 
   refusal-is : setRefusal (n start) known (start .args .method) ≡ c .forecast-set .result .refusal
-  unfolding setAnswer
-  refusal-is = sym (ap (λ (a : ForecastAnswer). a .refusal) (answer-is ∙ ap (λ (t : TriangleSet). setAnswer (n start) t (start .args .method)) known-is))
+  refusal-is =
+      sym (ap (λ (a : ForecastAnswer). a .refusal) (answer-is ∙ ap (λ (t : TriangleSet). setAnswer (n start) t (start .args .method)) known-is)
+      ∙ number-of (setRefusal (n start) known (start .args .method)) _ _ (λ (a : ForecastAnswer). a .refusal) refl refl)
 
   abbrev output : List ℤ
   output = c .forecast-set .last .1 .1 .1 .1 .0

@@ -10,11 +10,9 @@ use lib.IntN.{ℤ}
 use Rattle.model.specs.Lists.{every}
 use Rattle.model.specs.Shares.{g}
 use Rattle.model.specs.Questions.{q13}
-use Rattle.model.specs.declared.TriangleSet.{TriangleSet}
 use Rattle.chain_ladder.specs.Sums.{sumsOf}
 use Rattle.chain_ladder.specs.Ladder.{bounded}
 use Rattle.chain_ladder.specs.LadderLaws.{asked-A, asked-B, asked-signs, columns-above}
-use Rattle.chain_ladder.specs.Valid.{incurredAlone}
 use Rattle.chain_ladder.specs.DevelopedLaws.{A-above, B-above, latest-least, q13-is, incurred-no, incurred-yes}
 use Rattle.chain_ladder.proofs.OneTriangle.{Summed, steps-of, ok-is, ready-of, ultimates-of}
 use Rattle.chain_ladder.proofs.incurred_ultimates.Statement.{statement}
@@ -28,43 +26,43 @@ module _ (c : tie.After-sums) where
   abbrev m : ℕ
   m = start .args .m
 
-  abbrev set : TriangleSet
-  set = incurredAlone (start .args .incurred .now)
+  abbrev t : List ℤ
+  t = start .args .incurred .now
 
-  summed : Summed m (set .incurred) (c .sums .result)
+  summed : Summed m t (c .sums .result)
   summed = record { some = start .pre .0; small = start .pre .1; sums = c .sums .ensures }
 
   -- question 13 by the tests' answers
-  answer : (a b l y : Bool) → A-above m (set .incurred) ≡ a → B-above m (set .incurred) ≡ b → latest-least m (set .incurred) ≡ l → every m (λ j. bounded (g m (set .incurred) j)) ≡ y
-      → q13 m set ≡ ((a && b) && l && y)
-  answer a b l y p q r s = q13-is m set ∙ rw (p, q, r, s)
+  answer : (a b l y : Bool) → A-above m t ≡ a → B-above m t ≡ b → latest-least m t ≡ l → every m (λ j. bounded (g m t j)) ≡ y
+      → q13 m t ≡ ((a && b) && l && y)
+  answer a b l y p q r s = q13-is m t ∙ rw (p, q, r, s)
 
 -- ---- the tests
-a-is : (c : tie.After-at-least) → let b = c .before .before in c .at-least .result ≡ A-above (m b) (set b .incurred)
+a-is : (c : tie.After-at-least) → let b = c .before .before in c .at-least .result ≡ A-above (m b) (t b)
 unfolding sumsOf
-a-is c = let b = c .before .before in rw (b .sums .ensures) at (c .at-least .ensures) ∙ asked-A (m b) (set b .incurred) (summed b .small .few)
+a-is c = let b = c .before .before in rw (b .sums .ensures) at (c .at-least .ensures) ∙ asked-A (m b) (t b) (summed b .small .few)
 
 module _ (c : tie.After-b) where
   abbrev one : tie.After-sums
   one = c .before .before .before .before
 
-  a-yes : A-above (m one) (set one .incurred) ≡ true
+  a-yes : A-above (m one) (t one) ≡ true
   a-yes = sym (a-is (c .before .before)) ∙ not-false _ (c .before .if1 .left)
 
-b-is : (c : tie.After-at-least2) → let b = one (c .before) in c .at-least2 .result ≡ B-above (m b) (set b .incurred)
+b-is : (c : tie.After-at-least2) → let b = one (c .before) in c .at-least2 .result ≡ B-above (m b) (t b)
 unfolding sumsOf
-b-is c = let b = one (c .before) in rw (b .sums .ensures) at (c .at-least2 .ensures) ∙ asked-B (m b) (set b .incurred) (summed b .small .few)
+b-is c = let b = one (c .before) in rw (b .sums .ensures) at (c .at-least2 .ensures) ∙ asked-B (m b) (t b) (summed b .small .few)
 
 module _ (c : tie.After-latest) where
   abbrev two : tie.After-b
   two = c .before .before .before
 
-  b-yes : B-above (m (one two)) (set (one two) .incurred) ≡ true
+  b-yes : B-above (m (one two)) (t (one two)) ≡ true
   b-yes = sym (b-is (c .before .before)) ∙ not-false _ (c .before .if2 .left)
 
-latest-is : (c : tie.After-at-least3) → let b = one (two (c .before)) in c .at-least3 .result ≡ latest-least (m b) (set b .incurred)
+latest-is : (c : tie.After-at-least3) → let b = one (two (c .before)) in c .at-least3 .result ≡ latest-least (m b) (t b)
 unfolding sumsOf
-latest-is c = let b = one (two (c .before)) in rw (b .sums .ensures) at (c .at-least3 .ensures) ∙ asked-signs (m b) (set b .incurred) (summed b .small .few)
+latest-is c = let b = one (two (c .before)) in rw (b .sums .ensures) at (c .at-least3 .ensures) ∙ asked-signs (m b) (t b) (summed b .small .few)
 
 module _ (c : tie.After-cumulative-shares) where
   abbrev three : tie.After-latest
@@ -74,7 +72,7 @@ module _ (c : tie.After-cumulative-shares) where
   four = one (two three)
 
   -- the last test is the answer
-  answer-last : q13 (m four) (set four) ≡ c .cumulative-shares .result .ok
+  answer-last : q13 (m four) (t four) ≡ c .cumulative-shares .result .ok
   answer-last =
       answer four true true true _ (a-yes (two three)) (b-yes three) (sym (latest-is (c .before .before)) ∙ not-false _ (c .before .if3 .left))
       (sym (ok-is (summed four) (c .cumulative-shares .ensures)))
@@ -95,7 +93,7 @@ returns : tie.Need-returns
 returns c =
     let a = c .before .before in
     let b = a .before .before in
-    c .no-incurred .ensures ∙ sym (incurred-no (m b) (set b) (answer b false _ _ _ (sym (a-is a) ∙ not-true _ (c .before .if1 .taken)) refl refl refl))
+    c .no-incurred .ensures ∙ sym (incurred-no (m b) (t b) (answer b false _ _ _ (sym (a-is a) ∙ not-true _ (c .before .if1 .taken)) refl refl refl))
 
 sub-at-least-2 : tie.Need-sub-at-least-2
 sub-at-least-2 c = summed (one c) .some
@@ -111,7 +109,7 @@ returns-2 c =
     let a = c .before .before in
     let b = one (a .before) in
     c .no-incurred2 .ensures
-    ∙ sym (incurred-no (m b) (set b) (answer b true false _ _ (a-yes (a .before)) (sym (b-is a) ∙ not-true _ (c .before .if2 .taken)) refl refl))
+    ∙ sym (incurred-no (m b) (t b) (answer b true false _ _ (a-yes (a .before)) (sym (b-is a) ∙ not-true _ (c .before .if2 .taken)) refl refl))
 
 at-least-requires-3 : tie.Need-at-least-requires-3
 at-least-requires-3 c κs = summed (one (two c)) .small .few
@@ -125,13 +123,13 @@ returns-3 c =
     let n = a .before in
     let b = one (two n) in
     c .no-incurred3 .ensures
-    ∙ sym (incurred-no (m b) (set b) (answer b true true false _ (a-yes (two n)) (b-yes n) (sym (latest-is a) ∙ not-true _ (c .before .if3 .taken)) refl))
+    ∙ sym (incurred-no (m b) (t b) (answer b true true false _ (a-yes (two n)) (b-yes n) (sym (latest-is a) ∙ not-true _ (c .before .if3 .taken)) refl))
 
 cumulative-shares-requires : tie.Need-cumulative-shares-requires
 cumulative-shares-requires c κs =
     let n = c .before .before in
     let b = one (two n) in
-    steps-of (summed b) (columns-above (m b) (set b .incurred) (b-yes n))
+    steps-of (summed b) (columns-above (m b) (t b) (b-yes n))
 
 no-incurred-requires-4 : tie.Need-no-incurred-requires-4
 no-incurred-requires-4 c κs = search needs
@@ -140,7 +138,7 @@ returns-4 : tie.Need-returns-4
 returns-4 c =
     let a = c .before .before .before in
     let b = four a in
-    c .no-incurred4 .ensures ∙ sym (incurred-no (m b) (set b) (answer-last a ∙ not-true _ (c .before .if4 .taken)))
+    c .no-incurred4 .ensures ∙ sym (incurred-no (m b) (t b) (answer-last a ∙ not-true _ (c .before .if4 .taken)))
 
 ultimates-requires : tie.Need-ultimates-requires
 ultimates-requires c κs =
@@ -153,7 +151,7 @@ returns-5 c =
     let b = four a in
     let ok : a .cumulative-shares .result .ok ≡ true = not-false _ (c .before .before .if4 .left) in
     ap (λ (l : List ℤ). record { ok = true; ultimates = l }) (c .ultimates .ensures ∙ ultimates-of (summed b) (a .cumulative-shares .ensures) ok)
-    ∙ sym (incurred-yes (m b) (set b) (answer-last a ∙ ok))
+    ∙ sym (incurred-yes (m b) (t b) (answer-last a ∙ ok))
 
 pub incurred-ultimates-spec : {M : Type 1} → statement M
 incurred-ultimates-spec =

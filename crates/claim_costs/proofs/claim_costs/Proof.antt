@@ -4,9 +4,9 @@ use mathlib.Core.List.{List}
 use Prim.Native.Nat.{ℕ}
 use borrow.Author.Needs.{needs}
 use denote.Ref.{now}
-use Rattle.model.specs.Records.{setOf}
 use Rattle.model.specs.Calls.{readRefusal}
-use Rattle.chain_ladder.specs.Accepted.{valid-set, read-refusal, read-whole}
+use Rattle.model.specs.CallsLaws.{read-refusal}
+use Rattle.chain_ladder.specs.Accepted.{Accepted, accepted}
 use Rattle.claim_costs.specs.Costs.{costsOfSet}
 use Rattle.claim_costs.specs.CostsLaws.{file-no, file-yes}
 use Rattle.claim_costs.proofs.claim_costs.Statement.{statement}
@@ -27,11 +27,8 @@ module _ (c : tie.Else1) where
   abbrev read : tie.After-read-set
   read = c .before .before
 
-  accepted : readRefusal (m read) (f read) ≡ 0
-  accepted = refusal-is read ∙ c .if1 .left
-
-  set-is : read .read-set .result .set ≡ setOf (m read) (f read)
-  set-is = read-whole (m read) (f read) (read .read-set .ensures) (c .if1 .left)
+  file : Accepted (m read) (f read) (read .read-set .result .set)
+  file = accepted (m read) (f read) (read .read-set .ensures) (c .if1 .left)
 
 read-set-requires : tie.Need-read-set-requires
 read-set-requires c κs = search needs
@@ -45,12 +42,12 @@ returns c =
     c .refused .ensures ∙ sym (file-no (m b) (f b) _ (refusal-is b) (c .before .if1 .taken))
 
 claim-costs-of-set-requires : tie.Need-claim-costs-of-set-requires
-claim-costs-of-set-requires c κs = rw (set-is c) (valid-set (m (read c)) (f (read c)) (accepted c))
+claim-costs-of-set-requires c κs = file c .valid
 
 returns-2 : tie.Need-returns-2
 returns-2 c =
     let b = c .before in
-    c .claim-costs-of-set .ensures ∙ ap (costsOfSet (m (read b))) (set-is b) ∙ sym (file-yes (m (read b)) (f (read b)) (accepted b))
+    c .claim-costs-of-set .ensures ∙ ap (costsOfSet (m (read b))) (file b .is) ∙ sym (file-yes (m (read b)) (f (read b)) (file b .read))
 
 pub claim-costs-spec : {M : Type 1} → statement M
 claim-costs-spec =

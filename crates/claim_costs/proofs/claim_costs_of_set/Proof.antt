@@ -1,16 +1,17 @@
 -- `claim_costs_of_set` meets its contract: the questions of the shares, and then the quotients. Assumes nothing.
 use mathlib.Core.Path.{_≡_, sym, _∙_, ap}
 use Prim.Native.Nat.{ℕ, _≤_}
+use native.Mathlib.Omega.{arith}
 use borrow.Author.Needs.{needs}
 use lib.Dec.{T}
 use lib.Ieee.Positive.{positive}
 use Rattle.model.specs.Questions.{firstNo, ofShares}
 use Rattle.model.specs.ClaimCosts.{meanCost, claimCosts}
 use Rattle.model.specs.declared.TriangleSet.{TriangleSet}
-use Rattle.chain_ladder.specs.Valid.{Valid, valid-pair, few, paid-small}
+use Rattle.chain_ladder.specs.Valid.{Valid, least, few, counts-of, paid-of, paid-small}
 use Rattle.chain_ladder.specs.Sums.{sumsOf}
-use Rattle.chain_ladder.specs.Developed.{developed, development}
-use Rattle.chain_ladder.specs.DevelopedLaws.{some, developed-refusal, developed-yes, developed-pair}
+use Rattle.chain_ladder.specs.Developed.{development, bothDeveloped}
+use Rattle.chain_ladder.specs.DevelopedLaws.{Shared, shared-set, developed-refusal, developed-yes}
 use Rattle.chain_ladder.specs.declared.Developed.{Developed}
 use Rattle.claim_costs.specs.Costs.{meanCosts, costAt}
 use Rattle.claim_costs.specs.CostsLaws.{mu-positive, costs-exact, factors-exact, costs-are, factors-are, at-meanCosts, inflations-are, set-no, set-yes}
@@ -30,28 +31,25 @@ module _ (c : tie.After-develop) where
   abbrev valid : Valid m set
   valid = start .pre
 
-  answer-is : c .develop .result ≡ developed m set
-  answer-is = c .develop .ensures ∙ developed-pair m set
-
   least-size : 1 ≤ m
-  least-size = some m set valid
+  least-size = let l = least m set valid in omega arith
 
   most-size : m ≤ 20
   most-size = few m set valid
 
-  refusal-is : firstNo (ofShares m set) ≡ c .develop .result .refusal
-  refusal-is = sym (developed-refusal m set answer-is)
+  refusal-is : firstNo (ofShares m (set .counts) (set .paid)) ≡ c .develop .result .refusal
+  refusal-is = sym (developed-refusal m (set .counts) (set .paid) (c .develop .ensures))
 
 -- the set is accepted
 module _ (c : tie.After-u) where
   abbrev one : tie.After-develop
   one = c .before .before .before .before .before .before
 
-  accepted : firstNo (ofShares (m one) (set one)) ≡ 0
-  accepted = refusal-is one ∙ c .before .before .before .before .if1 .left
+  shared : Shared (m one) (set one .counts) (set one .paid)
+  shared = shared-set (m one) (set one) (valid one) (refusal-is one ∙ c .before .before .before .before .if1 .left)
 
-  developed-is : one .develop .result ≡ record { refusal = 0; counts = development (m one) (set one .counts); paid = development (m one) (set one .paid) }
-  developed-is = answer-is one ∙ developed-yes (m one) (set one) accepted
+  developed-is : one .develop .result ≡ bothDeveloped (m one) (set one .counts) (set one .paid)
+  developed-is = one .develop .ensures ∙ developed-yes (m one) (set one .counts) (set one .paid) (shared .asked)
 
 -- the mean costs, and mu
 module _ (c : tie.After-quotients) where
@@ -66,7 +64,7 @@ module _ (c : tie.After-quotients) where
   mu-is = rw costs-is (at-meanCosts (m two) (set two) (most-size two) 0 (least-size two))
 
   mu-above : T (positive (costAt (c .quotients .result) 0))
-  mu-above = rw mu-is (mu-positive (m two) (set two) (valid two) (accepted (c .before)))
+  mu-above = rw mu-is (mu-positive (m two) (set two) (shared (c .before)))
 
 -- the factors
 module _ (c : tie.After-quotients2) where
@@ -86,7 +84,9 @@ inflations-is c =
     ∙ inflations-are (m b) (set b) (most-size b) (least-size b) (ap (λ (x : Developed). x .paid .ultimates) (developed-is (q .before))) (costs-is q)
 
 develop-requires : tie.Need-develop-requires
-develop-requires c κs = valid-pair (c .before .before .before .args .m) (c .before .before .before .args .t1) (c .before .before .before .pre)
+develop-requires c κs =
+    let s = c .before .before .before in
+    (counts-of (s .args .m) (s .args .t1) (s .pre), paid-of (s .args .m) (s .args .t1) (s .pre))
 
 refused-requires : tie.Need-refused-requires
 refused-requires c κs = search needs
@@ -98,7 +98,7 @@ returns c =
 
 quotients-requires : tie.Need-quotients-requires
 unfolding development
-quotients-requires c κs = let b = one c in rw (developed-is c) (costs-exact (m b) (set b) (valid b) (accepted c))
+quotients-requires c κs = rw (developed-is c) (costs-exact (shared c))
 
 array-read-mu : tie.Need-array-read-mu
 array-read-mu c = search needs
@@ -113,8 +113,7 @@ quotients-requires-2 : tie.Need-quotients-requires-2
 unfolding sumsOf
 quotients-requires-2 c κs =
     let q = c .before .before .before .before .before in
-    let b = two q in
-    rw (c .before .before .sums .ensures) (factors-exact (m b) (set b) (valid b) (accepted (q .before)))
+    rw (c .before .before .sums .ensures) (factors-exact (shared (q .before)))
 
 inflations-requires : tie.Need-inflations-requires
 inflations-requires c κs = (most-size (two (three c)), mu-above (three c))
@@ -123,7 +122,7 @@ returns-2 : tie.Need-returns-2
 unfolding claimCosts
 returns-2 c =
     let q = three (c .before) in
-    set-yes (m (two q)) (set (two q)) (accepted (q .before)) (mu-is q) (factors-is (c .before)) (inflations-is c)
+    set-yes (m (two q)) (set (two q)) (shared (q .before) .asked) (mu-is q) (factors-is (c .before)) (inflations-is c)
 
 pub claim-costs-of-set-spec : {M : Type 1} → statement M
 claim-costs-of-set-spec =

@@ -10,13 +10,14 @@ use lib.IntN.{ℤ}
 use lib.ListN.{length}
 use Rattle.model.specs.Records.{setOf, hasIncurred}
 use Rattle.model.specs.Questions.{q6}
-use Rattle.model.specs.Calls.{zeros, readRefusal, forecastRefusal, Forecasted}
+use Rattle.model.specs.Calls.{readRefusal, refusedForecast, forecastRefusal, Forecasted}
+use Rattle.model.specs.CallsLaws.{read-refusal}
 use Rattle.model.specs.declared.TriangleSet.{TriangleSet}
 use Rattle.model.specs.declared.ForecastAnswer.{ForecastAnswer}
-use Rattle.chain_ladder.specs.Accepted.{valid-set, read-refusal, read-whole}
-use Rattle.chain_ladder.specs.Valid.{Valid, few, least}
-use Rattle.forecast.specs.Prepared.{setAnswer, setOutput}
-use Rattle.forecast.specs.FileLaws.{by-file, by-method, by-room, refused, forecasted}
+use Rattle.chain_ladder.specs.Accepted.{Accepted, accepted}
+use Rattle.chain_ladder.specs.Valid.{few, least}
+use Rattle.forecast.specs.SetForecast.{setAnswer, setOutput}
+use Rattle.forecast.specs.FileLaws.{by-file, by-six, by-room, refused, forecasted}
 use borrow.Author.Needs.{needs}
 use Rattle.forecast.proofs.forecast.Statement.{statement}
 use Rattle.forecast.proofs.forecast.Tie as tie
@@ -36,7 +37,7 @@ module _ (c : tie.After-read-set) where
 
   -- the contract of a refusal
   no : (n : ℕ) (a : ForecastAnswer) → (n ≡ 0 → ⊥) → forecastRefusal m f (start .args .method) (start .args .basis) (length before) ≡ n
-      → a ≡ record { refusal = n; leftovers = zeros 20 } → Forecasted m f (start .args .method) (start .args .basis) before before a
+      → a ≡ refusedForecast n → Forecasted m f (start .args .method) (start .args .basis) before before a
   no n a o e q = subst (Forecasted m f (start .args .method) (start .args .basis) before before) (sym q) (refused m f (start .args .method) (start .args .basis) before n o e)
 
   read-is : c .read-set .result .refusal ≡ readRefusal m f
@@ -47,26 +48,20 @@ module _ (c : tie.Else1) where
   abbrev one : tie.After-read-set
   one = c .before .before
 
-  accepted : readRefusal (m one) (f one) ≡ 0
-  accepted = sym (read-is one) ∙ c .if1 .left
-
-  valid : Valid (m one) (setOf (m one) (f one))
-  valid = valid-set (m one) (f one) accepted
+  file : Accepted (m one) (f one) (one .read-set .result .set)
+  file = accepted (m one) (f one) (one .read-set .ensures) (c .if1 .left)
 
   sized : (2 ≤ m one) × (m one ≤ 20)
-  sized = (least (m one) (setOf (m one) (f one)) valid, few (m one) (setOf (m one) (f one)) valid)
-
-  set-is : one .read-set .result .set ≡ setOf (m one) (f one)
-  set-is = read-whole (m one) (f one) (one .read-set .ensures) (c .if1 .left)
+  sized = (least (m one) _ (file .valid), few (m one) _ (file .valid))
 
 -- question 6
-asked-6 : (c : tie.After-method-known) → (let e = c .before in let d = one e in
-    c .method-known .result ≡ q6 (hasIncurred (m d) (f d)) (start d .args .method) (start d .args .basis))
+asked-6 : (c : tie.After-q6) → (let e = c .before in let d = one e in
+    c .q6 .result ≡ q6 (hasIncurred (m d) (f d)) (start d .args .method) (start d .args .basis))
 unfolding setOf
 asked-6 c =
     let e = c .before in
     let d = one e in
-    c .method-known .ensures ∙ ap (λ (t : TriangleSet). q6 (t .«has_incurred») (start d .args .method) (start d .args .basis)) (set-is e)
+    c .q6 .ensures ∙ ap (λ (t : TriangleSet). q6 (t .«has_incurred») (start d .args .method) (start d .args .basis)) (file e .is)
 
 read-set-requires : tie.Need-read-set-requires
 read-set-requires c κs = search needs
@@ -80,8 +75,8 @@ returns c =
     no d (d .read-set .result .refusal) (c .refused .result) (c .before .if1 .taken)
     (by-file (m d) (f d) (start d .args .method) (start d .args .basis) (before d) (λ e. c .before .if1 .taken (read-is d ∙ e)) ∙ sym (read-is d)) (c .refused .ensures)
 
-method-known-requires : tie.Need-method-known-requires
-method-known-requires c κs = search needs
+q6-requires : tie.Need-q6-requires
+q6-requires c κs = search needs
 
 refused-requires-2 : tie.Need-refused-requires-2
 refused-requires-2 c κs = search needs
@@ -91,7 +86,7 @@ returns-2 c =
     let k = c .before .before in
     let e = k .before in
     let d = one e in
-    no d 6 (c .refused2 .result) (λ z. omega arith) (by-method (m d) (f d) (start d .args .method) (start d .args .basis) (before d) (accepted e) (sym (asked-6 k) ∙ not-true (k .method-known .result) (c .before .if2 .taken))) (c .refused2 .ensures)
+    no d 6 (c .refused2 .result) (λ z. omega arith) (by-six (m d) (f d) (start d .args .method) (start d .args .basis) (before d) (file e .read) (sym (asked-6 k) ∙ not-true (k .q6 .result) (c .before .if2 .taken))) (c .refused2 .ensures)
 
 mul-if3 : tie.Need-mul-if3
 mul-if3 c = omega (arith, sized (c .before .before))
@@ -119,15 +114,15 @@ returns-3 c =
     let e = k .before in
     let d = one e in
     no d 7 (c .refused3 .result) (λ z. omega arith)
-    (by-room (m d) (f d) (start d .args .method) (start d .args .basis) (before d) (accepted e) (sym (asked-6 k) ∙ not-false (k .method-known .result) (c .before .before .if2 .left)) (c .before .if3 .taken)) (c .refused3 .ensures)
+    (by-room (m d) (f d) (start d .args .method) (start d .args .basis) (before d) (file e .read) (sym (asked-6 k) ∙ not-false (k .q6 .result) (c .before .before .if2 .left)) (c .before .if3 .taken)) (c .refused3 .ensures)
 
 forecast-set-requires : tie.Need-forecast-set-requires
 forecast-set-requires c κs =
     let k = c .before .before .before in
     let e = k .before in
     let d = one e in
-    let six = sym (k .method-known .ensures) ∙ not-false (k .method-known .result) (c .before .before .if2 .left) in
-    (subst (Valid (m d)) (sym (set-is e)) (valid e), six, c .before .if3 .left)
+    let six = sym (k .q6 .ensures) ∙ not-false (k .q6 .result) (c .before .before .if2 .left) in
+    (file e .valid, six, c .before .if3 .left)
 
 same-length : tie.Need-same-length
 same-length c = search needs
@@ -139,9 +134,9 @@ returns-4 c =
     let e = k .before in
     let d = one e in
     let w = c .before .forecast-set in
-    forecasted (m d) (f d) (start d .args .method) (start d .args .basis) (before d) (accepted e) (sym (asked-6 k) ∙ not-false (k .method-known .result) (n .before .if2 .left)) (n .if3 .left) (w .result) (w .last .1 .1 .1 .1 .0)
-    (w .ensures .0 ∙ ap (λ (t : TriangleSet). setAnswer (m d) t (start d .args .method)) (set-is e))
-    (w .ensures .1 ∙ ap (λ (t : TriangleSet). setOutput (m d) t (start d .args .method) (start d .args .basis) (before d)) (set-is e))
+    forecasted (m d) (f d) (start d .args .method) (start d .args .basis) (before d) (file e .read) (sym (asked-6 k) ∙ not-false (k .q6 .result) (n .before .if2 .left)) (n .if3 .left) (w .result) (w .last .1 .1 .1 .1 .0)
+    (w .ensures .0 ∙ ap (λ (t : TriangleSet). setAnswer (m d) t (start d .args .method)) (file e .is))
+    (w .ensures .1 ∙ ap (λ (t : TriangleSet). setOutput (m d) t (start d .args .method) (start d .args .basis) (before d)) (file e .is))
 
 pub forecast-spec : {M : Type 1} → statement M
 forecast-spec =
@@ -150,7 +145,7 @@ forecast-spec =
     read-set-requires
     refused-requires
     returns
-    method-known-requires
+    q6-requires
     refused-requires-2
     returns-2
     mul-if3

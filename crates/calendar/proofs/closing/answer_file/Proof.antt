@@ -8,8 +8,8 @@ use denote.Ref.{now}
 use lib.IntN.{ℤ}
 use Rattle.model.specs.Cells.{size}
 use Rattle.model.specs.Calendar.{tallyOf, page}
-use Rattle.model.specs.Calls.{zeros, forecastRefusal, forecastAnswer, forecastOutput}
-use Rattle.model.specs.declared.ForecastAnswer.{ForecastAnswer}
+use Rattle.model.specs.Calls.{zeros, forecastRefusal, forecastOutput}
+use Rattle.model.specs.CallsLaws.{forecast-refusal}
 use Rattle.forecast.specs.SmallEntries.{file-small}
 use Rattle.calendar.specs.YearSums.{Small}
 use Rattle.calendar.specs.Printable.{Printable, small-printable}
@@ -24,8 +24,7 @@ module _ (c : tie.After-forecast) where
   start = c .before .before .before .before
 
   refusal-is : c .forecast .result .refusal ≡ forecastRefusal (start .args .m) (now (start .args .file)) (start .args .method) (start .args .basis) 1560
-  unfolding forecastAnswer
-  refusal-is = ap (λ (a : ForecastAnswer). a .refusal) (c .forecast .ensures .result)
+  refusal-is = forecast-refusal _ _ _ _ _ (c .forecast .ensures .result)
 
   output-is : c .forecast .last .1 .1 .1 .1 .0 ≡ forecastOutput (start .args .m) (now (start .args .file)) (start .args .method) (start .args .basis) (zeros 1560)
   output-is = c .forecast .ensures .output

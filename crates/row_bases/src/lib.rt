@@ -1,12 +1,14 @@
-// The row bases of a set under a method, and the questions 13 and 14.
-use cells::bases::leftovers;
-use cells::bases::row_bases;
+// The row bases and leftovers of a set under a method (01, Row bases), and questions 13 and 14.
+mod bases;
+
+use bases::leftovers;
+use bases::row_bases;
 use chain_ladder::Development;
 use chain_ladder::Incurred;
 ghost use mathlib.Core.Path.{_≡_};
 ghost use Prim.Native.Nat.{_^_, _≤_};
 ghost use Rattle.chain_ladder.specs.Sums.{Small};
-ghost use Rattle.forecast.specs.Method.{Sized, noBases, incurredUnder, basesFrom};
+ghost use Rattle.row_bases.specs.Method.{Sized, noBases, incurredUnder, basesFrom};
 
 // V(i) and the left over of year i, both at place i - 1. A refusal of 0 says that the questions got a yes; beside another stand zeros.
 pub struct MethodBases {

@@ -1,4 +1,4 @@
--- `forecast::method::method_bases` meets its contract. Assumes nothing.
+-- `row_bases::method_bases` meets its contract. Assumes nothing.
 use mathlib.Core.Path.{_≡_, sym, _∙_, ap, ap₂, subst}
 use mathlib.Core.Bool.{true}
 use mathlib.Core.List.{List}
@@ -7,12 +7,12 @@ use borrow.Author.Tests.{not-true, not-false}
 use denote.Ref.{now}
 use lib.IntN.{ℤ}
 use Rattle.chain_ladder.specs.declared.Incurred.{Incurred}
-use Rattle.cells.specs.declared.bases.Bases.{Bases}
-use Rattle.cells.specs.Bases.{AllSizes}
-use Rattle.forecast.specs.Method.{basesFrom, incurredUnder}
-use Rattle.forecast.specs.MethodLaws.{from-13, from-14, from-yes}
-use Rattle.forecast.proofs.method.method_bases.Statement.{statement}
-use Rattle.forecast.proofs.method.method_bases.Tie as tie
+use Rattle.row_bases.specs.declared.bases.Bases.{Bases}
+use Rattle.row_bases.specs.Bases.{AllSizes}
+use Rattle.row_bases.specs.Method.{basesFrom, incurredUnder}
+use Rattle.row_bases.specs.MethodLaws.{from-13, from-14, from-yes}
+use Rattle.row_bases.proofs.method_bases.Statement.{statement}
+use Rattle.row_bases.proofs.method_bases.Tie as tie
 
 abbrev start : tie.After-incurred-under → tie.Start
 start c = c .before

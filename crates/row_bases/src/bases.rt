@@ -1,13 +1,14 @@
-// Row bases and left overs: document 01's section "Row bases".
+// The row base and the leftover of each year, from the years' ultimates and latest sums.
 use arithmetic::Capped;
 ghost use mathlib.Core.Path.{_≡_};
 ghost use Prim.Native.Nat.{_*_, _^_, _≤_};
 ghost use Rattle.arithmetic.specs.Capped.{capped};
 ghost use lib.IntN.{pos};
 ghost use Rattle.model.specs.Lists.{listed};
-ghost use Rattle.cells.specs.Bases.{baseFrom, leftFrom, leftAt, Year, Sizes, AllSizes, basesOf};
+ghost use Rattle.row_bases.specs.Bases.{baseFrom, leftFrom, leftAt, Year, Sizes, AllSizes, basesOf};
 
-// Row bases, year i at place i - 1, where `ok` says that each is within question 14's range; else zeros.
+// Row bases, year i at place i - 1, where `ok` says that each is within question 14's range; else
+// zeros.
 pub struct Bases {
     pub ok: bool,
     pub v: [i64; 20],
@@ -16,8 +17,8 @@ pub struct Bases {
 // Question 14's limit.
 const LIMIT: u64 = 200000000000000;
 
-// The row base of a year, unless it leaves question 14's range. u and w are its ultimates of paid and incurred, c its latest paid sum, u1 and w1
-// the ultimates of year 1.
+// The row base of a year, unless it leaves question 14's range. u and w are its ultimates of paid
+// and incurred, c its latest paid sum, u1 and w1 the ultimates of year 1.
 fn row_base(method: u64, u1: i64, w1: i64, u: i64, w: i64, c: i64) -> Capped
     requires { ⌜ Sizes method u1 w1 u w c ⌝ }
     ensures { λ k. ⌜ k ≡ capped (2 * 10 ^ 14) (baseFrom method u1 w1 u w c) ⌝ }
@@ -34,7 +35,7 @@ fn row_base(method: u64, u1: i64, w1: i64, u: i64, w: i64, c: i64) -> Capped
     arithmetic::mul_div_capped(u, w - c, u - c, LIMIT)
 }
 
-// The left over of a year.
+// The leftover of a year.
 fn leftover(method: u64, u: i64, w: i64, c: i64) -> i64
     requires { ⌜ Year method u w c ⌝ }
     ensures { λ k. ⌜ k ≡ leftFrom method u w c ⌝ }
@@ -48,7 +49,8 @@ fn leftover(method: u64, u: i64, w: i64, c: i64) -> i64
     0
 }
 
-// The row bases of years 1 to m, from the ultimates u of paid and w of incurred and the latest paid sums c. It stops at the first outside question 14's range.
+// The row bases of years 1 to m, from the ultimates u of paid and w of incurred and the latest paid
+// sums c. It stops at the first outside question 14's range.
 pub fn row_bases(m: usize, method: u64, u: [i64; 20], c: [i64; 20], w: [i64; 20]) -> Bases
     requires { ⌜ (1 ≤ m) × (m ≤ 20) × AllSizes m method u c w ⌝ }
     ensures { λ r. ⌜ r ≡ basesOf m method u c w ⌝ }
@@ -68,7 +70,7 @@ pub fn row_bases(m: usize, method: u64, u: [i64; 20], c: [i64; 20], w: [i64; 20]
     Bases { ok: true, v }
 }
 
-// The left overs of years 1 to m, year i at place i - 1.
+// The leftovers of years 1 to m, year i at place i - 1.
 pub fn leftovers(m: usize, method: u64, u: [i64; 20], c: [i64; 20], w: [i64; 20]) -> [i64; 20]
     requires { ⌜ (m ≤ 20) × AllSizes m method u c w ⌝ }
     ensures { λ r. ⌜ r ≡ listed 20 m (leftAt m method u c w) (pos 0) ⌝ }

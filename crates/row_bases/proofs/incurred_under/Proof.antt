@@ -1,8 +1,8 @@
--- `forecast::method::incurred_under` meets its contract. Assumes nothing.
+-- `row_bases::incurred_under` meets its contract. Assumes nothing.
 use borrow.Author.Tests.{ne-eqb}
-use Rattle.forecast.specs.Method.{incurredUnder}
-use Rattle.forecast.proofs.method.incurred_under.Statement.{statement}
-use Rattle.forecast.proofs.method.incurred_under.Tie as tie
+use Rattle.row_bases.specs.Method.{incurredUnder}
+use Rattle.row_bases.proofs.incurred_under.Statement.{statement}
+use Rattle.row_bases.proofs.incurred_under.Tie as tie
 
 returns : tie.Need-returns
 unfolding incurredUnder

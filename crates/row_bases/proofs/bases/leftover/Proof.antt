@@ -1,4 +1,4 @@
--- `cells::bases::leftover` meets its contract. Assumes nothing.
+-- `row_bases::bases::leftover` meets its contract. Assumes nothing.
 use mathlib.Core.Path.{sym, ap}
 use native.Mathlib.Omega.{arith}
 use lib.IntN.{_-ℤ_}
@@ -6,10 +6,10 @@ use mir.Syntax.{w64}
 use mir.Val.{SFits, ofZ}
 use mir.Facts.{toZ-ofZ}
 use Rattle.arithmetic.proofs.Words.{fits-abs}
-use Rattle.cells.proofs.Words.{equal-words}
-use Rattle.cells.specs.BasesLaws.{left-none, left-settled, left-open, incurred-small, reserve-pos}
-use Rattle.cells.proofs.bases.leftover.Statement.{statement}
-use Rattle.cells.proofs.bases.leftover.Tie as tie
+use Rattle.row_bases.proofs.Words.{equal-words}
+use Rattle.row_bases.specs.BasesLaws.{left-none, left-settled, left-open, incurred-small, reserve-pos}
+use Rattle.row_bases.proofs.bases.leftover.Statement.{statement}
+use Rattle.row_bases.proofs.bases.leftover.Tie as tie
 
 incurred-fits : (s : tie.Start) → SFits w64 (s .args .w -ℤ s .args .c)
 incurred-fits s = fits-abs (omega (arith, incurred-small (s .pre)))

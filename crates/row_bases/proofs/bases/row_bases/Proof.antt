@@ -1,4 +1,4 @@
--- `cells::bases::row_bases` meets its contract. The loop's invariant: the bases of the first k years are in range and in their places.
+-- `row_bases::bases::row_bases` meets its contract. The loop's invariant: the bases of the first k years are in range and in their places.
 -- Assumes nothing.
 use borrow.Author.Needs.{needs}
 use mathlib.Core.Path.{_≡_, sym, _∙_, ap₂}
@@ -17,9 +17,9 @@ use Rattle.model.specs.Lists.{at, listed, every}
 use Rattle.model.specs.ListsLaws.{listed-none, listed-more, every-none, every-more, every-no}
 use Rattle.arithmetic.specs.Capped.{capped, within-is, over-is}
 use Rattle.arithmetic.proofs.Words.{fits-abs}
-use Rattle.cells.specs.Bases.{Sizes, baseAt, basesOf}
-use Rattle.cells.proofs.bases.row_bases.Statement.{statement}
-use Rattle.cells.proofs.bases.row_bases.Tie as tie
+use Rattle.row_bases.specs.Bases.{Sizes, baseAt, basesOf}
+use Rattle.row_bases.proofs.bases.row_bases.Statement.{statement}
+use Rattle.row_bases.proofs.bases.row_bases.Tie as tie
 
 abbrev Inv-loop : tie.InvT-loop
 Inv-loop m method u c w v₀ k₀ v k =

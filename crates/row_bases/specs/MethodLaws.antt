@@ -4,52 +4,65 @@ use mathlib.Core.Bool.{Bool, true, false, _&&_, false≢true}
 use mathlib.Core.List.{List, [], _∷_}
 use Prim.Native.Nat.{ℕ, zero, suc, _-_, _*_, _^_, _≤_, _<_}
 use native.Mathlib.Omega.{arith}
-use borrow.Author.Tests.{ne-eqb, eq-eqb, eqb-true, eqb-false, le-leb, leb-true, leb-false}
+use borrow.Author.Tests.{ne-eqb, eqb-true, eqb-false, le-leb, leb-true}
 use lib.Dec.{eqb, leb}
 use lib.IntN.{ℤ, pos, negℤ, natAbs}
 use lib.ListN.{getD-replicate}
 use lib.Signed.{leZ, ltZ, ≤ℤ-refl}
 use Rattle.integers.specs.Parts.{_⩽_, _⋖_}
 use Rattle.integers.specs.Linear.{lin, stmt}
-use Rattle.integers.specs.Order.{natAbs-≤, le-yes, lt-yes, leZ-true}
+use Rattle.integers.specs.Order.{natAbs-≤, le-yes, lt-yes}
 use Rattle.model.specs.Lists.{at, listed, every}
 use Rattle.model.specs.ListsLaws.{listed-ext, every-at, every-ext, every-all, and-left, and-right}
 use Rattle.model.specs.Shares as Shares
 use Rattle.model.specs.Shares.{latest, A, B, g, ultimate, ultimates}
 use Rattle.model.specs.RowBases as RowBases
 use Rattle.model.specs.RowBases.{U, W, R, R*, rowBase, leftover, leftovers}
-use Rattle.model.specs.Questions.{within, usesIncurred, firstNo, ofMethod, q13, q14}
-use Rattle.model.specs.QuestionsLaws.{yes-first, no-first, all-yes, within-so, within-yes}
+use Rattle.model.specs.Questions.{within, usesIncurred, firstNo, ofMethod, q6, q13, q14}
+use Rattle.model.specs.QuestionsLaws.{EachYes, numbered, each-yes, within-so, within-yes}
 use Rattle.model.specs.Calls.{zeros}
+use Rattle.model.specs.CallsLaws.{if-accepted, if-refused, number-of}
 use Rattle.model.specs.declared.TriangleSet.{TriangleSet}
-use Rattle.model.specs.Tests.{by-test}
+use Rattle.model.specs.Tests.{by-test, same-test}
 use Rattle.chain_ladder.specs.declared.Incurred.{Incurred}
 use Rattle.chain_ladder.specs.declared.Development.{Development}
 use Rattle.chain_ladder.specs.Developed.{development, incurredOf}
-use Rattle.chain_ladder.specs.DevelopedLaws.{some, incurred-yes, incurred-alone}
-use Rattle.chain_ladder.specs.LadderLaws.{at-latests, bounded-first}
+use Rattle.chain_ladder.specs.DevelopedLaws.{Shared, paid-sound, paid-bounds, incurred-yes}
+use Rattle.chain_ladder.specs.LadderLaws.{at-latests}
 use Rattle.chain_ladder.specs.Sums.{latests}
-use Rattle.chain_ladder.specs.Ladder.{bounded}
 use Rattle.chain_ladder.specs.SharesLaws.{latest-nonneg, at-ultimates}
 use Rattle.chain_ladder.specs.UltimatesLaws.{ultimate-nonneg, ultimate-small, latest-ultimate, ultimate-first, latest-first}
-use Rattle.chain_ladder.specs.Valid.{few, least, paid-small, incurred-small}
-use Rattle.cells.specs.Bases.{Year, baseFrom, leftFrom, baseAt, leftAt, AllSizes, basesOf}
-use Rattle.forecast.specs.Method.{Asked, Incurreds, Sized, rowBases, methodBases, noBases, incurredUnder, basesFrom}
+use Rattle.chain_ladder.specs.Valid.{Valid, few, least, incurred-small}
+use Rattle.row_bases.specs.Bases.{Year, baseFrom, leftFrom, baseAt, leftAt, AllSizes, basesOf}
+use Rattle.row_bases.specs.Method.{Asked, Incurreds, Sized, rowBases, bothBases, methodBases, noBases, incurredUnder, basesFrom}
+use Rattle.row_bases.specs.declared.MethodBases.{MethodBases}
+
+-- methods 1 and 2
+pub uses : (method : ℕ) → method ≤ 2 → (method ≡ 0 → ⊥) → usesIncurred method ≡ true
+uses zero h n = absurd (n refl)
+uses (suc zero) h n = refl
+uses (suc (suc zero)) h n = refl
+uses (suc (suc (suc k))) h n = absurd (omega arith)
 
 -- a magnitude of at most n
-pub magnitude-within : (n : ℕ) (z : ℤ) → leb (natAbs z) n ≡ within (negℤ (pos n)) (pos n) z
-magnitude-within n z = by-test (leb (natAbs z) n) refl
+magnitude-within : (n : ℕ) (z : ℤ) → leb (natAbs z) n ≡ within (negℤ (pos n)) (pos n) z
+magnitude-within n z =
+    same-test (leb (natAbs z) n) (within (negℤ (pos n)) (pos n) z)
+    (λ e. let h = natAbs-≤ {x = z} {n = n} .0 (leb-true (natAbs z) n e) in within-yes (negℤ (pos n)) (pos n) z (h .1) (h .0))
+    (λ e. let h = within-so (negℤ (pos n)) (pos n) z e in le-leb (natAbs z) n (natAbs-≤ {x = z} {n = n} .1 (h .1, h .0)))
+
+-- question 6 of a method, and questions 9 to 11
+pub method-asked : (m : ℕ) (s : TriangleSet) (method basis : ℕ) → Valid m s → Shared m (s .counts) (s .paid) → q6 (s .«has_incurred») method basis ≡ true → Asked m s method
+unfolding q6
+method-asked m s method basis valid shared e = record {
+  valid = valid;
+  shared = shared;
+  known = known;
+  hasIncurred = λ n. rw (uses method known n) at (and-right (leb method 2 && leb basis 1) _ e);
+}
   where
-    by-test : (t : Bool) → leb (natAbs z) n ≡ t → leb (natAbs z) n ≡ within (negℤ (pos n)) (pos n) z
-    by-test true e = let h = natAbs-≤ {x = z} {n = n} .0 (leb-true (natAbs z) n e) in e ∙ sym (within-yes (negℤ (pos n)) (pos n) z (h .1) (h .0))
-    by-test false e = by-within (within (negℤ (pos n)) (pos n) z) refl
-      where
-        by-within : (t : Bool) → within (negℤ (pos n)) (pos n) z ≡ t → leb (natAbs z) n ≡ within (negℤ (pos n)) (pos n) z
-        by-within false w = e ∙ sym w
-        by-within true w =
-            let h = within-so (negℤ (pos n)) (pos n) z w in
-            let k = natAbs-≤ {x = z} {n = n} .1 (h .1, h .0) in
-            let l = leb-false (natAbs z) n e in absurd (omega arith)
+    known : method ≤ 2
+    known = leb-true method 2 (and-left _ _ (and-left _ _ e))
 
 module _ (m : ℕ) (s : TriangleSet) (method : ℕ) (asked : Asked m s method) where
   abbrev m-few : m ≤ 20
@@ -64,13 +77,9 @@ module _ (m : ℕ) (s : TriangleSet) (method : ℕ) (asked : Asked m s method) w
   abbrev c : List ℤ
   c = latests m (s .paid)
 
-  paid-bounded : every m (λ j. bounded (g m (s .paid) j)) ≡ true
-  paid-bounded =
-      bounded-first m (s .paid) (let l = m-least in omega arith) (paid-small m s (asked .valid)) (asked .paid .cells) (asked .paid .columns) ∙ leZ-true (asked .least)
-
   module _ (k : ℕ) (h : k < m) where
     paid-high : natAbs (ultimate m (s .paid) (suc k)) ≤ 2 * 10 ^ 14
-    paid-high = ultimate-small m (s .paid) (paid-small m s (asked .valid)) paid-bounded (suc k) (omega arith) (omega arith)
+    paid-high = ultimate-small m (s .paid) (asked .shared .paid .small) (paid-bounds (asked .shared)) (suc k) (omega arith) (omega arith)
 
     year : (w : List ℤ) → Incurreds m s method w → Year method (at u k) (at w k) (at c k)
     year w i =
@@ -80,8 +89,8 @@ module _ (m : ℕ) (s : TriangleSet) (method : ℕ) (asked : Asked m s method) w
           high = (paid-high, i .small k h .1);
           low = i .small k h .0;
           paid = (
-            latest-nonneg m (s .paid) (asked .paid) (suc k) (omega arith) (omega arith),
-            latest-ultimate m (s .paid) (asked .paid) (suc k) (omega arith) (omega arith),
+            latest-nonneg m (s .paid) (paid-sound (asked .shared)) (suc k) (omega arith) (omega arith),
+            latest-ultimate m (s .paid) (paid-sound (asked .shared)) (suc k) (omega arith) (omega arith),
           );
         })
 
@@ -99,26 +108,17 @@ module _ (m : ℕ) (s : TriangleSet) (method : ℕ) (asked : Asked m s method) w
   module _ (w : List ℤ) (i : Incurreds m s method w) where
     pub base-is : (k : ℕ) → k < m → baseAt m method u c w k ≡ rowBase m s method (suc k)
     unfolding baseFrom rowBase U W R R*
-    base-is k h = by-method (eqb method 0) refl
-      where
-        z : 0 < m
-        z = omega arith
-
-        by-method : (t : Bool) → eqb method 0 ≡ t → baseAt m method u c w k ≡ rowBase m s method (suc k)
-        by-method true e = let q : method ≡ 0 = eqb-true method 0 e in rw (q, at-ultimates m (s .paid) m-few k h)
-        by-method false e =
-            let n : method ≡ 0 → ⊥ = eqb-false method 0 e in
-            rw (at-ultimates m (s .paid) m-few 0 z, at-ultimates m (s .paid) m-few k h, i .are n 0 z, i .are n k h, at-latests m (s .paid) m-few k h)
+    base-is k h =
+        let z : 0 < m = omega arith in
+        by-test (eqb method 0) (λ e. let q : method ≡ 0 = eqb-true method 0 e in rw (q, at-ultimates m (s .paid) m-few k h))
+        (λ e. let n : method ≡ 0 → ⊥ = eqb-false method 0 e in
+        rw (at-ultimates m (s .paid) m-few 0 z, at-ultimates m (s .paid) m-few k h, i .are n 0 z, i .are n k h, at-latests m (s .paid) m-few k h))
 
     pub left-is : (k : ℕ) → k < m → leftAt m method u c w k ≡ leftover m s method (suc k)
     unfolding leftFrom leftover U W R R*
-    left-is k h = by-method (eqb method 0) refl
-      where
-        by-method : (t : Bool) → eqb method 0 ≡ t → leftAt m method u c w k ≡ leftover m s method (suc k)
-        by-method true e = let q : method ≡ 0 = eqb-true method 0 e in rw q
-        by-method false e =
-            let n : method ≡ 0 → ⊥ = eqb-false method 0 e in
-            rw (at-ultimates m (s .paid) m-few k h, i .are n k h, at-latests m (s .paid) m-few k h)
+    left-is k h =
+        by-test (eqb method 0) (λ e. let q : method ≡ 0 = eqb-true method 0 e in rw q)
+        (λ e. let n : method ≡ 0 → ⊥ = eqb-false method 0 e in rw (at-ultimates m (s .paid) m-few k h, i .are n k h, at-latests m (s .paid) m-few k h))
 
     pub bases-are : listed 20 m (baseAt m method u c w) (pos 0) ≡ rowBases m s method
     unfolding rowBases
@@ -150,7 +150,7 @@ module _ (m : ℕ) (s : TriangleSet) (method : ℕ) (asked : Asked m s method) w
     are = λ n. absurd (n q);
   }
 
-  pub with-incurred : (method ≡ 0 → ⊥) → q13 m s ≡ true → Incurreds m s method (ultimates m (s .incurred))
+  pub with-incurred : (method ≡ 0 → ⊥) → q13 m (s .incurred) ≡ true → Incurreds m s method (ultimates m (s .incurred))
   unfolding q13
   with-incurred n e = record {
     small = λ k h. rw (at-ultimates m (s .incurred) m-few k h) (ultimate-nonneg m t (suc k) (c-low k h) (g-pos k h), ultimate-small m t (incurred-small m s (asked .valid) (asked .hasIncurred n)) shares (suc k) (omega arith) (omega arith));
@@ -188,99 +188,86 @@ module _ (m : ℕ) (s : TriangleSet) (method : ℕ) (asked : Asked m s method) w
 
 -- ---- the answer, question by question
 module _ (m : ℕ) (s : TriangleSet) (method : ℕ) where
-  pub none-asked : method ≡ 0 → firstNo (ofMethod m s method) ≡ 0
+  abbrev asked-all : ℕ
+  asked-all = firstNo (ofMethod m s method)
+
+  none-asked : method ≡ 0 → asked-all ≡ 0
   unfolding ofMethod firstNo
   none-asked q = rw q
 
-  uses : method ≤ 2 → (method ≡ 0 → ⊥) → usesIncurred method ≡ true
-  uses h n = by-one (eqb method 1) refl
-    where
-      by-one : (t : Bool) → eqb method 1 ≡ t → usesIncurred method ≡ true
-      by-one true e = rw e
-      by-one false e = let o = eqb-false method 1 e in rw (e, eq-eqb method 2 (two method h n o))
-        where
-          two : (k : ℕ) → k ≤ 2 → (k ≡ 0 → ⊥) → (k ≡ 1 → ⊥) → k ≡ 2
-          two zero h n o = absurd (n refl)
-          two (suc zero) h n o = absurd (o refl)
-          two (suc (suc k)) h n o = omega arith
-
   module _ (known : method ≤ 2) (n : method ≡ 0 → ⊥) where
-    no-13 : q13 m s ≡ false → firstNo (ofMethod m s method) ≡ 13
-    unfolding ofMethod
-    no-13 e = rw (uses known n) (no-first 13 _ _ e)
-
-    no-14 : q13 m s ≡ true → q14 m s method ≡ false → firstNo (ofMethod m s method) ≡ 14
-    unfolding ofMethod
-    no-14 a e = rw (uses known n) (yes-first 13 _ _ a ∙ no-first 14 _ _ e)
-
-    both : q13 m s ≡ true → q14 m s method ≡ true → firstNo (ofMethod m s method) ≡ 0
+    no-13 : q13 m (s .incurred) ≡ false → asked-all ≡ 13
     unfolding ofMethod firstNo
-    both a b = rw (uses known n, a, b)
+    no-13 e = rw (uses method known n, e)
 
-  refused-with : (k : ℕ) → firstNo (ofMethod m s method) ≡ suc k → methodBases m s method ≡ noBases (suc k)
+    no-14 : q13 m (s .incurred) ≡ true → q14 m s method ≡ false → asked-all ≡ 14
+    unfolding ofMethod firstNo
+    no-14 a e = rw (uses method known n, a, e)
+
+    both : q13 m (s .incurred) ≡ true → q14 m s method ≡ true → asked-all ≡ 0
+    unfolding ofMethod firstNo
+    both a b = rw (uses method known n, a, b)
+
+  refused-with : (k : ℕ) → asked-all ≡ suc k → methodBases m s method ≡ noBases (suc k)
   unfolding methodBases
-  refused-with k e = rw (e, ne-eqb (suc k) 0 (λ z. omega arith))
+  refused-with k e = if-refused _ _ _ (λ (z : asked-all ≡ 0). omega arith) ∙ ap noBases e
 
-  pub accepted-with : firstNo (ofMethod m s method) ≡ 0 → methodBases m s method ≡ record { refusal = 0; v = rowBases m s method; leftovers = leftovers m s method }
+  pub accepted-with : asked-all ≡ 0 → methodBases m s method ≡ bothBases m s method
   unfolding methodBases
-  accepted-with e = rw e
+  accepted-with e = if-accepted _ _ _ e
 
-  pub refused-13 : method ≤ 2 → (method ≡ 0 → ⊥) → q13 m s ≡ false → methodBases m s method ≡ noBases 13
-  refused-13 h n e = refused-with 12 (no-13 h n e)
-
-  pub refused-14 : method ≤ 2 → (method ≡ 0 → ⊥) → q13 m s ≡ true → q14 m s method ≡ false → methodBases m s method ≡ noBases 14
-  refused-14 h n a e = refused-with 13 (no-14 h n a e)
-
-  pub accepted : method ≤ 2 → (method ≡ 0 → ⊥) → q13 m s ≡ true → q14 m s method ≡ true → methodBases m s method ≡ record { refusal = 0; v = rowBases m s method; leftovers = leftovers m s method }
-  accepted h n a b = accepted-with (both h n a b)
+  pub bases-refusal : {y : MethodBases} → y ≡ methodBases m s method → y .refusal ≡ asked-all
+  unfolding methodBases
+  bases-refusal e = ap (λ (x : MethodBases). x .refusal) e ∙ number-of _ _ _ (λ (x : MethodBases). x .refusal) refl refl
 
   -- the ultimates of incurred that the method uses
-  pub under-none : method ≡ 0 → incurredUnder m (s .incurred) method ≡ record { ok = true; ultimates = zeros 20 }
+  under-none : method ≡ 0 → incurredUnder m (s .incurred) method ≡ record { ok = true; ultimates = zeros 20 }
   unfolding incurredUnder
   under-none q = rw q
 
-  pub under-some : (method ≡ 0 → ⊥) → incurredUnder m (s .incurred) method ≡ incurredOf m s
+  under-some : (method ≡ 0 → ⊥) → incurredUnder m (s .incurred) method ≡ incurredOf m (s .incurred)
   unfolding incurredUnder
-  under-some n = rw (ne-eqb method 0 n) (incurred-alone m s)
+  under-some n = rw (ne-eqb method 0 n)
 
 -- ---- as the code asks: x is what it has of incurred
-module _ (m : ℕ) (s : TriangleSet) (method : ℕ) (asked : Asked m s method) (x : Incurred) (is : x ≡ incurredUnder m (s .incurred) method) where
+module _ (m : ℕ) (s : TriangleSet) (method : ℕ) (asked : Asked m s method) where
+  abbrev x : Incurred
+  x = incurredUnder m (s .incurred) method
+
   -- method 0, or question 13
-  by-method : {P : Type 0} → (method ≡ 0 → x ≡ record { ok = true; ultimates = zeros 20 } → P) → ((method ≡ 0 → ⊥) → x ≡ incurredOf m s → P) → P
-  by-method {P} f g = go (eqb method 0) refl
-    where
-      go : (t : Bool) → eqb method 0 ≡ t → P
-      go true e = let q : method ≡ 0 = eqb-true method 0 e in f q (is ∙ under-none m s method q)
-      go false e = let n : method ≡ 0 → ⊥ = eqb-false method 0 e in g n (is ∙ under-some m s method n)
+  by-method : {P : Type 0} → (method ≡ 0 → x ≡ record { ok = true; ultimates = zeros 20 } → P) → ((method ≡ 0 → ⊥) → x ≡ incurredOf m (s .incurred) → P) → P
+  by-method f g =
+      by-test (eqb method 0) (λ e. let q : method ≡ 0 = eqb-true method 0 e in f q (under-none m s method q))
+      (λ e. let n : method ≡ 0 → ⊥ = eqb-false method 0 e in g n (under-some m s method n))
 
   -- the answer to question 13
-  ok-is : x ≡ incurredOf m s → x .ok ≡ q13 m s
+  ok-is : x ≡ incurredOf m (s .incurred) → x .ok ≡ q13 m (s .incurred)
   unfolding incurredOf
   ok-is e = ap (λ (y : Incurred). y .ok) e
 
-  pub incurreds : x .ok ≡ true → Incurreds m s method (x .ultimates)
-  incurreds t =
+  have : x .ok ≡ true → Incurreds m s method (x .ultimates)
+  have t =
       by-method (λ q e. rw (ap (λ (y : Incurred). y .ultimates) e) (no-incurred m s method asked q))
-      (λ n e. let a : q13 m s ≡ true = sym (ok-is e) ∙ t in rw (ap (λ (y : Incurred). y .ultimates) (e ∙ incurred-yes m s a)) (with-incurred m s method asked n a))
+      (λ n e. let a : q13 m (s .incurred) ≡ true = sym (ok-is e) ∙ t in rw (ap (λ (y : Incurred). y .ultimates) (e ∙ incurred-yes m (s .incurred) a)) (with-incurred m s method asked n a))
 
-  pub answer-13 : x .ok ≡ false → methodBases m s method ≡ noBases 13
+  answer-13 : x .ok ≡ false → methodBases m s method ≡ noBases 13
   answer-13 t =
       by-method (λ q e. absurd (false≢true (sym t ∙ ap (λ (y : Incurred). y .ok) e)))
-      (λ n e. refused-13 m s method (asked .known) n (sym (ok-is e) ∙ t))
+      (λ n e. refused-with m s method 12 (no-13 m s method (asked .known) n (sym (ok-is e) ∙ t)))
 
   module _ (t : x .ok ≡ true) where
     abbrev passes : Bool
     passes = every m (λ k. leb (natAbs (baseAt m method (ultimates m (s .paid)) (latests m (s .paid)) (x .ultimates) k)) (2 * 10 ^ 14))
 
-    pub answer-14 : passes ≡ false → methodBases m s method ≡ noBases 14
+    answer-14 : passes ≡ false → methodBases m s method ≡ noBases 14
     answer-14 f =
-        by-method (λ q e. absurd (false≢true (sym f ∙ passed-14 m s method asked (x .ultimates) (incurreds t) q)))
-        (λ n e. refused-14 m s method (asked .known) n (sym (ok-is e) ∙ t) (sym (asked-14 m s method asked (x .ultimates) (incurreds t)) ∙ f))
+        by-method (λ q e. absurd (false≢true (sym f ∙ passed-14 m s method asked (x .ultimates) (have t) q)))
+        (λ n e. refused-with m s method 13 (no-14 m s method (asked .known) n (sym (ok-is e) ∙ t) (sym (asked-14 m s method asked (x .ultimates) (have t)) ∙ f)))
 
-    pub answer-yes : passes ≡ true → methodBases m s method ≡ record { refusal = 0; v = rowBases m s method; leftovers = leftovers m s method }
+    answer-yes : passes ≡ true → methodBases m s method ≡ bothBases m s method
     answer-yes f =
         by-method (λ q e. accepted-with m s method (none-asked m s method q))
-        (λ n e. accepted m s method (asked .known) n (sym (ok-is e) ∙ t) (sym (asked-14 m s method asked (x .ultimates) (incurreds t)) ∙ f))
+        (λ n e. accepted-with m s method (both m s method (asked .known) n (sym (ok-is e) ∙ t) (sym (asked-14 m s method asked (x .ultimates) (have t)) ∙ f)))
 
 -- ---- the lists from their parts
 module _ (m method : ℕ) (d : Development) (x : Incurred) where
@@ -298,42 +285,40 @@ module _ (m method : ℕ) (d : Development) (x : Incurred) where
     from-yes e = rw (has, e)
 
 module _ (m : ℕ) (s : TriangleSet) (method : ℕ) (asked : Asked m s method) where
-  abbrev x : Incurred
-  x = incurredUnder m (s .incurred) method
+  abbrev xs : Incurred
+  xs = incurredUnder m (s .incurred) method
 
   abbrev d : Development
   d = development m (s .paid)
 
-  have : x .ok ≡ true → Incurreds m s method (x .ultimates)
-  have = incurreds m s method asked x refl
-
   pub sized : Sized m method d (s .incurred)
   unfolding development
   sized = record {
-    some = some m s (asked .valid);
-    few = few m s (asked .valid);
+    some = (let l = m-least m s method asked in omega arith);
+    few = m-few m s method asked;
     incurred = λ n. incurred-small m s (asked .valid) (asked .hasIncurred n);
-    years = λ has. sizes m s method asked (x .ultimates) (have has);
+    years = λ has. sizes m s method asked (xs .ultimates) (have m s method asked has);
   }
 
-  pub from-parts : basesFrom m method d x ≡ methodBases m s method
+  pub from-parts : basesFrom m method d xs ≡ methodBases m s method
   unfolding development basesOf
-  from-parts = by-test (x .ok) with-incurred (λ no. from-13 m method d x no ∙ sym (answer-13 m s method asked x refl no))
-    where
-      with-incurred : x .ok ≡ true → basesFrom m method d x ≡ methodBases m s method
-      with-incurred has =
-          by-test (basesOf m method (d .ultimates) (d .latest) (x .ultimates) .ok)
-          (λ in-range.
-          from-yes m method d x has in-range
-          ∙ ap₂ (λ (v l : List ℤ). record { refusal = 0; v = v; leftovers = l }) (rw in-range (bases-are m s method asked (x .ultimates) (have has))) (lefts-are m s method asked (x .ultimates) (have has))
-          ∙ sym (answer-yes m s method asked x refl has in-range))
-          (λ out. from-14 m method d x has out ∙ sym (answer-14 m s method asked x refl has out))
+  from-parts =
+      by-test (xs .ok)
+      (λ has. by-test (basesOf m method (d .ultimates) (d .latest) (xs .ultimates) .ok)
+      (λ in-range.
+      from-yes m method d xs has in-range
+      ∙ ap₂ (λ (v l : List ℤ). record { refusal = 0; v = v; leftovers = l }) (rw in-range (bases-are m s method asked (xs .ultimates) (have m s method asked has))) (lefts-are m s method asked (xs .ultimates) (have m s method asked has))
+      ∙ sym (answer-yes m s method asked has in-range))
+      (λ out. from-14 m method d xs has out ∙ sym (answer-14 m s method asked has out)))
+      (λ no. from-13 m method d xs no ∙ sym (answer-13 m s method asked no))
 
 -- ---- the bases of an accepted set are within question 14's range
 module _ (m : ℕ) (s : TriangleSet) (method : ℕ) (asked : Asked m s method) (accepted : firstNo (ofMethod m s method) ≡ 0) where
   fourteen : (method ≡ 0 → ⊥) → q14 m s method ≡ true
-  unfolding ofMethod
-  fourteen n = all-yes 13 _ _ (all-yes 12 _ _ (rw (uses m s method (asked .known) n) at accepted) .1) .0
+  unfolding ofMethod numbered
+  fourteen n =
+      let h : EachYes ((13, q13 m (s .incurred)) ∷ (14, q14 m s method) ∷ []) = each-yes _ refl (rw (uses method (asked .known) n) at accepted) in
+      search
 
   ranged : (method ≡ 0 → ⊥) → (k : ℕ) → k < m → natAbs (rowBase m s method (suc k)) ≤ 2 * 10 ^ 14
   unfolding q14
@@ -343,8 +328,6 @@ module _ (m : ℕ) (s : TriangleSet) (method : ℕ) (asked : Asked m s method) (
 
   pub bases-small : (k : ℕ) → k < m → natAbs (rowBase m s method (suc k)) ≤ 2 * 10 ^ 14
   unfolding rowBase U
-  bases-small k h = go (eqb method 0) refl
-    where
-      go : (t : Bool) → eqb method 0 ≡ t → natAbs (rowBase m s method (suc k)) ≤ 2 * 10 ^ 14
-      go true e = let q : method ≡ 0 = eqb-true method 0 e in rw q (paid-high m s method asked k h)
-      go false e = ranged (eqb-false method 0 e) k h
+  bases-small k h =
+      by-test (eqb method 0) (λ e. let q : method ≡ 0 = eqb-true method 0 e in rw q (paid-high m s method asked k h))
+      (λ e. ranged (eqb-false method 0 e) k h)

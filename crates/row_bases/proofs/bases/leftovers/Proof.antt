@@ -1,4 +1,4 @@
--- `cells::bases::leftovers` meets its contract. The loop's invariant: the left overs of the first k years are in their places.
+-- `row_bases::bases::leftovers` meets its contract. The loop's invariant: the left overs of the first k years are in their places.
 -- Assumes nothing.
 use mathlib.Core.Path.{_≡_, sym}
 use Prim.Native.Nat.{_-_, _≤_}
@@ -7,9 +7,9 @@ use lib.IntN.{pos}
 use mir.Facts.{toZ-ofZ}
 use Rattle.model.specs.Lists.{listed}
 use Rattle.model.specs.ListsLaws.{listed-none, listed-more}
-use Rattle.cells.specs.Bases.{leftAt}
-use Rattle.cells.proofs.bases.leftovers.Statement.{statement}
-use Rattle.cells.proofs.bases.leftovers.Tie as tie
+use Rattle.row_bases.specs.Bases.{leftAt}
+use Rattle.row_bases.proofs.bases.leftovers.Statement.{statement}
+use Rattle.row_bases.proofs.bases.leftovers.Tie as tie
 
 abbrev Inv-loop : tie.InvT-loop
 Inv-loop m method u c w out₀ k₀ out k = (k ≤ m) × (out ≡ listed 20 k (leftAt m method u c w) (pos 0))

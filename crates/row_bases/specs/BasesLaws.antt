@@ -13,7 +13,7 @@ use Rattle.integers.specs.Linear.{lin, stmt, _&_}
 use Rattle.integers.specs.Order.{<ℤ-or-≥, ≤ℤ-antisym}
 use Rattle.model.specs.Rounding.{r}
 use Rattle.model.specs.RowBases.{isZero}
-use Rattle.cells.specs.Bases.{baseFrom, leftFrom, Year}
+use Rattle.row_bases.specs.Bases.{baseFrom, leftFrom, Year}
 
 above-zero : (z : ℤ) → pos 0 ⋖ z → isZero z ≡ false
 above-zero (pos n) h = ne-eqb n 0 (λ e. let k : 0 < n = omega (arith, ints) in omega arith)

@@ -1,19 +1,9 @@
--- `forecast::method_known` meets its contract. Assumes nothing.
-use mathlib.Core.Path.{_≡_, refl}
-use mathlib.Core.Bool.{true}
-use Prim.Native.Nat.{ℕ, zero, suc, _≤_}
-use native.Mathlib.Omega.{arith}
+-- `forecast::q6` meets its contract. Assumes nothing.
 use borrow.Author.Tests.{le-leb, lt-leb}
-use Rattle.model.specs.Questions.{q6, usesIncurred}
-use Rattle.forecast.proofs.method_known.Statement.{statement}
-use Rattle.forecast.proofs.method_known.Tie as tie
-
--- method 1 or 2
-uses : (k : ℕ) → k ≤ 2 → (k ≡ 0 → ⊥) → usesIncurred k ≡ true
-uses zero h n = absurd (n refl)
-uses (suc zero) h n = refl
-uses (suc (suc zero)) h n = refl
-uses (suc (suc (suc k))) h n = absurd (omega arith)
+use Rattle.model.specs.Questions.{q6}
+use Rattle.row_bases.specs.MethodLaws.{uses}
+use Rattle.forecast.proofs.q6.Statement.{statement}
+use Rattle.forecast.proofs.q6.Tie as tie
 
 returns : tie.Need-returns
 unfolding q6
@@ -34,5 +24,5 @@ returns-4 c =
     let h = c .before .before .if1 .left in
     rw (le-leb (a .method) 2 h, le-leb (a .basis) 1 (c .before .if2 .left), uses (a .method) h (c .if3 .left))
 
-pub method-known-spec : {M : Type 1} → statement M
-method-known-spec = tie.close (tie.spec returns returns-2 returns-3 returns-4)
+pub q6-spec : {M : Type 1} → statement M
+q6-spec = tie.close (tie.spec returns returns-2 returns-3 returns-4)

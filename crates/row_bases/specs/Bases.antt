@@ -10,7 +10,7 @@ use Rattle.model.specs.Lists.{at, listed, every}
 use Rattle.model.specs.Rounding.{r}
 use Rattle.model.specs.RowBases.{isZero}
 use Rattle.model.specs.Calls.{zeros}
-use Rattle.cells.specs.declared.bases.Bases.{Bases}
+use Rattle.row_bases.specs.declared.bases.Bases.{Bases}
 
 -- V, by method: u; r(u1 × w / w1); r(u × (w - c) / (u - c)), or u where u - c is 0
 unfoldable pub baseFrom : ℕ → ℤ → ℤ → ℤ → ℤ → ℤ → ℤ

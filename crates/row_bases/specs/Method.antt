@@ -1,4 +1,4 @@
--- The row bases and left overs of a set under a method, and the questions 13 and 14.
+-- The row bases and leftovers of a set under a method, and questions 13 and 14.
 use Prim.Native.Nat.{ℕ, suc, _*_, _^_, _≤_, _<_}
 use mathlib.Core.Path.{_≡_}
 use mathlib.Core.Bool.{true, cond}
@@ -7,7 +7,7 @@ use lib.Dec.{eqb}
 use lib.IntN.{ℤ, pos, natAbs}
 use Rattle.integers.specs.Parts.{_⩽_, _⋖_}
 use Rattle.model.specs.Lists.{at, listed}
-use Rattle.model.specs.Shares.{g, ultimate}
+use Rattle.model.specs.Shares.{ultimate}
 use Rattle.model.specs.RowBases.{rowBase, leftovers}
 use Rattle.model.specs.Questions.{firstNo, ofMethod}
 use Rattle.model.specs.Calls.{ifAccepted, zeros}
@@ -16,10 +16,10 @@ use Rattle.chain_ladder.specs.declared.Incurred.{Incurred}
 use Rattle.chain_ladder.specs.declared.Development.{Development}
 use Rattle.chain_ladder.specs.Sums.{Small}
 use Rattle.chain_ladder.specs.Developed.{incurredOf}
-use Rattle.chain_ladder.specs.Valid.{Valid, incurredAlone}
-use Rattle.chain_ladder.specs.SharesLaws.{Sound}
-use Rattle.cells.specs.Bases.{leftAt, AllSizes, basesOf}
-use Rattle.forecast.specs.declared.method.MethodBases.{MethodBases}
+use Rattle.chain_ladder.specs.Valid.{Valid}
+use Rattle.chain_ladder.specs.DevelopedLaws.{Shared}
+use Rattle.row_bases.specs.Bases.{leftAt, AllSizes, basesOf}
+use Rattle.row_bases.specs.declared.MethodBases.{MethodBases}
 
 -- V(i) at place i - 1
 unfoldable pub rowBases : ℕ → TriangleSet → ℕ → List ℤ
@@ -28,15 +28,17 @@ rowBases m s method = listed 20 m (λ k. rowBase m s method (suc k)) (pos 0)
 abbrev pub noBases : ℕ → MethodBases
 noBases n = record { refusal = n; v = zeros 20; leftovers = zeros 20 }
 
--- both lists, or the number of the first of questions 13 and 14 that gets a no: they are put under methods 1 and 2
+-- both lists
+abbrev pub bothBases : ℕ → TriangleSet → ℕ → MethodBases
+bothBases m s method = record { refusal = 0; v = rowBases m s method; leftovers = leftovers m s method }
+
+-- or the number of the first of questions 13 and 14 that gets a no
 unfoldable pub methodBases : ℕ → TriangleSet → ℕ → MethodBases
-methodBases m s method =
-    let n = firstNo (ofMethod m s method) in
-    record { refusal = n; v = ifAccepted n (rowBases m s method) (zeros 20); leftovers = ifAccepted n (leftovers m s method) (zeros 20) }
+methodBases m s method = let n = firstNo (ofMethod m s method) in ifAccepted n (bothBases m s method) (noBases n)
 
 -- W of the incurred triangle t under methods 1 and 2; zeros under method 0, where incurred is not asked for
 unfoldable pub incurredUnder : ℕ → List ℤ → ℕ → Incurred
-incurredUnder m t method = cond (eqb method 0) (record { ok = true; ultimates = zeros 20 }) (incurredOf m (incurredAlone t))
+incurredUnder m t method = cond (eqb method 0) (record { ok = true; ultimates = zeros 20 }) (incurredOf m t)
 
 -- the same lists, from the chain ladder d of paid and what there is of incurred
 unfoldable pub basesFrom : ℕ → ℕ → Development → Incurred → MethodBases
@@ -52,13 +54,12 @@ pub record Sized (m method : ℕ) (d : Development) (t : List ℤ) : Type 0 wher
   pub incurred : (method ≡ 0 → ⊥) → Small m (10 ^ 10) t
   pub years : incurredUnder m t method .ok ≡ true → AllSizes m method (d .ultimates) (d .latest) (incurredUnder m t method .ultimates)
 
--- what questions 1, 5, 6 and 9 to 11 give: a method that is known, with its incurred, and a sound paid triangle with g(0) of at least 10^6
+-- what questions 1, 5, 6 and 9 to 11 give: a method that is known, with its incurred, and counts and paid that passed
 pub record Asked (m : ℕ) (s : TriangleSet) (method : ℕ) : Type 0 where
   pub valid : Valid m s
+  pub shared : Shared m (s .counts) (s .paid)
   pub known : method ≤ 2
   pub hasIncurred : (method ≡ 0 → ⊥) → s .«has_incurred» ≡ true
-  pub paid : Sound m (s .paid)
-  pub least : pos (10 ^ 6) ⩽ g m (s .paid) 0
 
 -- the ultimates w of incurred as the bases use them
 pub record Incurreds (m : ℕ) (s : TriangleSet) (method : ℕ) (w : List ℤ) : Type 0 where

@@ -1,4 +1,4 @@
--- `cells::bases::row_base` meets its contract. Assumes nothing.
+-- `row_bases::bases::row_base` meets its contract. Assumes nothing.
 use mathlib.Core.Path.{sym, _∙_, ap}
 use Prim.Native.Nat.{_*_, _^_}
 use native.Mathlib.Omega.{arith}
@@ -9,10 +9,10 @@ use mir.Facts.{toZ-ofZ}
 use Rattle.integers.specs.Parts.{_⋖_}
 use Rattle.arithmetic.specs.Capped.{capped-within}
 use Rattle.arithmetic.proofs.Words.{fits-abs}
-use Rattle.cells.proofs.Words.{equal-words}
-use Rattle.cells.specs.BasesLaws.{base-paid, base-incurred, base-settled, base-open, incurred-small, reserve-small, reserve-pos}
-use Rattle.cells.proofs.bases.row_base.Statement.{statement}
-use Rattle.cells.proofs.bases.row_base.Tie as tie
+use Rattle.row_bases.proofs.Words.{equal-words}
+use Rattle.row_bases.specs.BasesLaws.{base-paid, base-incurred, base-settled, base-open, incurred-small, reserve-small, reserve-pos}
+use Rattle.row_bases.proofs.bases.row_base.Statement.{statement}
+use Rattle.row_bases.proofs.bases.row_base.Tie as tie
 
 module _ (s : tie.Start) where
   incurred-fits : SFits w64 (s .args .w -ℤ s .args .c)

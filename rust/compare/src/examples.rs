@@ -64,12 +64,12 @@ fn answer(example: &Example) -> Answer {
         Call::BackTest { method, basis, cut } => {
             let mut sums = [0; 4];
             let refusal = calls::back_test(&file, m, method, basis, cut as usize, &mut sums);
-            let [cells, by_cell, by_year, in_all] = sums;
+            let [cells, cellwise, yearwise, overall] = sums;
             let test = BackTest {
                 cells,
-                by_cell,
-                by_year,
-                in_all,
+                cellwise,
+                yearwise,
+                overall,
             };
             (refusal, Answer::BackTest(test))
         }

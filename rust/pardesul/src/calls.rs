@@ -8,14 +8,14 @@ mod foreign {
             file: *const u8,
             file_len: usize,
             m: usize,
-            three: *mut u8,
+            has_incurred: *mut u8,
             counts: *mut [i64; 400],
             paid: *mut [i64; 400],
             incurred: *mut [i64; 400],
         ) -> u64;
         pub fn pardesul_write_set(
             m: usize,
-            three: bool,
+            has_incurred: bool,
             counts: *const [i64; 400],
             paid: *const [i64; 400],
             incurred: *const [i64; 400],
@@ -86,19 +86,19 @@ mod foreign {
 }
 
 /// The set of a file: each triangle with cell (i,j) at 20 × (i-1) + j and zeros elsewhere, and
-/// `three`, 1 where incurred is there, else 0.
+/// `has_incurred`, 1 where incurred is there, else 0.
 ///
 /// ```
 /// use pardesul::calls::read_set;
 ///
-/// let (mut three, mut counts, mut paid, mut incurred) = (9, [9; 400], [9; 400], [9; 400]);
-/// assert_eq!(read_set(&[], 21, &mut three, &mut counts, &mut paid, &mut incurred), 1);
-/// assert_eq!((three, counts, paid, incurred), (9, [9; 400], [9; 400], [9; 400]));
+/// let (mut has_incurred, mut counts, mut paid, mut incurred) = (9, [9; 400], [9; 400], [9; 400]);
+/// assert_eq!(read_set(&[], 21, &mut has_incurred, &mut counts, &mut paid, &mut incurred), 1);
+/// assert_eq!((has_incurred, counts, paid, incurred), (9, [9; 400], [9; 400], [9; 400]));
 /// ```
 pub fn read_set(
     file: &[u8],
     m: usize,
-    three: &mut u8,
+    has_incurred: &mut u8,
     counts: &mut [i64; 400],
     paid: &mut [i64; 400],
     incurred: &mut [i64; 400],
@@ -106,12 +106,20 @@ pub fn read_set(
     // SAFETY: the pointers are of references, which are valid and, where they are written through,
     // unshared.
     unsafe {
-        foreign::pardesul_read_set(file.as_ptr(), file.len(), m, three, counts, paid, incurred)
+        foreign::pardesul_read_set(
+            file.as_ptr(),
+            file.len(),
+            m,
+            has_incurred,
+            counts,
+            paid,
+            incurred,
+        )
     }
 }
 
 /// Writes a set's file to the front of `out`, in an order of the library's own; the bytes past it
-/// stay. `three` says whether incurred is there.
+/// stay. `has_incurred` says whether incurred is there.
 ///
 /// ```
 /// use pardesul::calls::write_set;
@@ -123,7 +131,7 @@ pub fn read_set(
 /// ```
 pub fn write_set(
     m: usize,
-    three: bool,
+    has_incurred: bool,
     counts: &[i64; 400],
     paid: &[i64; 400],
     incurred: &[i64; 400],
@@ -133,7 +141,7 @@ pub fn write_set(
     unsafe {
         foreign::pardesul_write_set(
             m,
-            three,
+            has_incurred,
             counts,
             paid,
             incurred,
@@ -205,8 +213,8 @@ pub fn claim_costs(
     }
 }
 
-/// The forecast: 2m(2m-1) entries at the front of `out`, where those past them stay, and the left
-/// over of year i at place i - 1. Entry 2 × ((i-1) × (2m-1) + j) is RBNS of year i at delay j, the
+/// The forecast: 2m(2m-1) entries at the front of `out`, where those past them stay, and the
+/// leftover of year i at place i - 1. Entry 2 × ((i-1) × (2m-1) + j) is RBNS of year i at delay j, the
 /// next one IBNR. Methods 0 DCL, 1 BDCL, 2 IDCL; bases 0 actual, 1 estimated counts.
 ///
 /// ```

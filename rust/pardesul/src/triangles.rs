@@ -98,11 +98,11 @@ impl TriangleSet {
     /// with 1 to 5.
     pub fn read(file: &[u8], m: usize) -> Result<TriangleSet, Refusal> {
         let (mut counts, mut paid, mut incurred) = ([0; 400], [0; 400], [0; 400]);
-        let mut three = 0;
+        let mut has_incurred = 0;
         Refusal::of(calls::read_set(
             file,
             m,
-            &mut three,
+            &mut has_incurred,
             &mut counts,
             &mut paid,
             &mut incurred,
@@ -111,7 +111,7 @@ impl TriangleSet {
             m,
             counts: Triangle::new(counts),
             paid: Triangle::new(paid),
-            incurred: (three == 1).then(|| Triangle::new(incurred)),
+            incurred: (has_incurred == 1).then(|| Triangle::new(incurred)),
         })
     }
 

@@ -8,7 +8,7 @@ use crate::forecast::{entry, entry_count, forecast, Forecast};
 use crate::generate::file;
 use crate::records::{place, Refusal, Set};
 use crate::shares::{shares, Shares};
-use Number::{ByCell, ByYear, Cells, Ibnr, InAll, Rbns, Together, B, N, P, Q, U};
+use Number::{Cells, Cellwise, Ibnr, Overall, Rbns, Together, Yearwise, B, N, P, Q, U};
 
 /// Triangles by rows, as the document prints them: "80, 20 / 90".
 pub fn set(counts: &[&[i64]], paid: &[&[i64]], incurred: Option<&[&[i64]]>) -> Set {
@@ -69,9 +69,9 @@ pub enum Number {
     Ibnr(usize, usize),
     Together(usize, usize),
     Cells,
-    ByCell,
-    ByYear,
-    InAll,
+    Cellwise,
+    Yearwise,
+    Overall,
 }
 
 /// What the document prints of an answer.
@@ -270,7 +270,7 @@ pub const EXAMPLES: &[Example] = &[
             basis: 1,
             cut: 1,
         },
-        printed: Printed::Numbers(&[(Cells, 1), (ByCell, 10), (ByYear, 10), (InAll, 10)]),
+        printed: Printed::Numbers(&[(Cells, 1), (Cellwise, 10), (Yearwise, 10), (Overall, 10)]),
     },
 ];
 
@@ -444,9 +444,9 @@ impl Example {
                 of.entries[entry(m, i, j)] + of.entries[entry(m, i, j) + 1]
             }
             (Answer::BackTest(of), Cells) => of.cells as i64,
-            (Answer::BackTest(of), ByCell) => of.by_cell as i64,
-            (Answer::BackTest(of), ByYear) => of.by_year as i64,
-            (Answer::BackTest(of), InAll) => of.in_all as i64,
+            (Answer::BackTest(of), Cellwise) => of.cellwise as i64,
+            (Answer::BackTest(of), Yearwise) => of.yearwise as i64,
+            (Answer::BackTest(of), Overall) => of.overall as i64,
             _ => return None,
         };
         Some(found)

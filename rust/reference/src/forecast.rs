@@ -7,7 +7,7 @@ use crate::rounding::{r, scale};
 use crate::row_bases::row_bases;
 use crate::shares::{estimates, list, signed_64, Estimates};
 
-/// The 2m(2m-1) output entries, and the left overs.
+/// The 2m(2m-1) output entries, and the leftovers.
 #[derive(Clone, Debug, PartialEq, Eq)]
 pub struct Forecast {
     pub entries: Vec<i64>,
@@ -43,7 +43,7 @@ pub fn forecast(
 
 /// "Is the method 0, 1 or 2, the basis 0 or 1, and is incurred there if the method is 1 or 2?"
 pub fn question_6(set: &Set, method: u64, basis: u64) -> Result<(), Refusal> {
-    if method <= 2 && basis <= 1 && (method == 0 || set.incurred_there) {
+    if method <= 2 && basis <= 1 && (method == 0 || set.has_incurred) {
         Ok(())
     } else {
         Err(6)

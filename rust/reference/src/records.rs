@@ -12,17 +12,17 @@ pub type Values = [i64; 400];
 #[derive(Clone, Debug, PartialEq, Eq)]
 pub struct Set {
     pub m: usize,
-    pub incurred_there: bool,
+    pub has_incurred: bool,
     pub counts: Values,
     pub paid: Values,
     pub incurred: Values,
 }
 
 impl Set {
-    pub fn empty(m: usize, incurred_there: bool) -> Set {
+    pub fn empty(m: usize, has_incurred: bool) -> Set {
         Set {
             m,
-            incurred_there,
+            has_incurred,
             counts: [0; 400],
             paid: [0; 400],
             incurred: [0; 400],
@@ -31,7 +31,7 @@ impl Set {
 
     /// Kinds 0 and 1, or 0 to 2.
     pub fn kinds(&self) -> u8 {
-        kinds(self.incurred_there)
+        kinds(self.has_incurred)
     }
 
     /// The triangle of a kind: "0 count, 1 paid, 2 incurred".
@@ -76,8 +76,8 @@ pub fn range(kind: u8) -> RangeInclusive<i64> {
     }
 }
 
-fn kinds(incurred_there: bool) -> u8 {
-    if incurred_there {
+fn kinds(has_incurred: bool) -> u8 {
+    if has_incurred {
         3
     } else {
         2
@@ -85,9 +85,9 @@ fn kinds(incurred_there: bool) -> u8 {
 }
 
 /// The length in bytes of a set's file: "16 × m(m+1), or half as much again".
-pub fn file_length(m: usize, incurred_there: bool) -> usize {
+pub fn file_length(m: usize, has_incurred: bool) -> usize {
     let without = 16 * m * (m + 1);
-    if incurred_there {
+    if has_incurred {
         without + without / 2
     } else {
         without
@@ -139,15 +139,15 @@ impl Record {
 pub fn read_set(file: &[u8], m: u64) -> Result<Set, Refusal> {
     let m = question_1(m)?;
     // 2. "Is the length 16 × m(m+1), or half as much again?"
-    let incurred_there = file.len() == file_length(m, true);
-    if !incurred_there && file.len() != file_length(m, false) {
+    let has_incurred = file.len() == file_length(m, true);
+    if !has_incurred && file.len() != file_length(m, false) {
         return Err(2);
     }
     let records: Vec<Record> = file.chunks_exact(16).map(Record::read).collect();
     // 3. "Has each record a kind that length allows, a cell inside the triangle, and zero in
     // bytes 3 to 7?"
     let well_formed = |record: &Record| {
-        record.kind < kinds(incurred_there)
+        record.kind < kinds(has_incurred)
             && is_cell(m, record.i, record.j)
             && record.padding == [0; 5]
     };
@@ -160,7 +160,7 @@ pub fn read_set(file: &[u8], m: u64) -> Result<Set, Refusal> {
         times[usize::from(record.kind)][place(record.i, record.j)] += 1;
     }
     let once = |kind: u8| cells(m).all(|(i, j)| times[usize::from(kind)][place(i, j)] == 1);
-    if !(0..kinds(incurred_there)).all(once) {
+    if !(0..kinds(has_incurred)).all(once) {
         return Err(4);
     }
     // 5. "Is each value in range?"
@@ -170,7 +170,7 @@ pub fn read_set(file: &[u8], m: u64) -> Result<Set, Refusal> {
     {
         return Err(5);
     }
-    let mut set = Set::empty(m, incurred_there);
+    let mut set = Set::empty(m, has_incurred);
     for record in &records {
         set.triangle_mut(record.kind)[place(record.i, record.j)] = record.value;
     }
@@ -181,7 +181,7 @@ pub fn read_set(file: &[u8], m: u64) -> Result<Set, Refusal> {
 /// "The writer takes 1, 5 and 7, and question 5 looks only at the set's cells."
 pub fn write_set(
     m: u64,
-    incurred_there: bool,
+    has_incurred: bool,
     counts: &Values,
     paid: &Values,
     incurred: &Values,
@@ -190,7 +190,7 @@ pub fn write_set(
     let m = question_1(m)?;
     let triangles = [counts, paid, incurred];
     let mut bytes = Vec::new();
-    for kind in 0..kinds(incurred_there) {
+    for kind in 0..kinds(has_incurred) {
         for (i, j) in cells(m) {
             let value = triangles[usize::from(kind)][place(i, j)];
             if !range(kind).contains(&value) {

@@ -5,7 +5,7 @@ use crate::records::{Refusal, Set};
 use crate::rounding::r;
 use crate::shares::{incurred_ultimates, Estimates};
 
-/// V(i) and the left overs, year i at place i - 1.
+/// V(i) and the leftovers, year i at place i - 1.
 pub struct RowBases {
     pub v: Vec<Big>,
     pub leftovers: Vec<Big>,

@@ -25,7 +25,7 @@ fn printed_examples() {
     }
 }
 
-/// All entries of K, and no left overs: year 1 has R = 0 and keeps its tail under IDCL too.
+/// All entries of K, and no leftovers: year 1 has R = 0 and keeps its tail under IDCL too.
 #[test]
 fn entries_of_k() {
     let forecast = |method| forecast(&file(&set_k()), 2, method, 1, 12).unwrap();

@@ -22,7 +22,7 @@ pub fn compare(seed: u64, case: &Case) -> Result<bool, Difference> {
     )?;
     let list = wanted
         .ok()
-        .map(|test| [test.cells, test.by_cell, test.by_year, test.in_all]);
+        .map(|test| [test.cells, test.cellwise, test.yearwise, test.overall]);
     let lists = list.as_ref().map(|list| [&list[..]]);
     memory.holds("back-test", lists.as_ref().map(|lists| &lists[..]), text)?;
     Ok(refusal == 0)

@@ -35,7 +35,7 @@ pub fn compare(seed: u64, case: &Case) -> Result<bool, Difference> {
         };
         same_list("pardesul::forecast", found.entries(), &wanted.entries, text)?;
         same_list(
-            "pardesul::forecast, left overs",
+            "pardesul::forecast, leftovers",
             &found.leftovers,
             &wanted.leftovers[..m],
             text,

@@ -18,10 +18,10 @@ pub fn compare_file(seed: u64, file: &[u8], m: u64) -> Result<bool, Difference> 
     let m = m as usize;
 
     let flag = seed as u8;
-    let mut three = flag;
+    let mut has_incurred = flag;
     let mut memory = Memory::new(seed, &[400; 3]);
     let [counts, paid, incurred] = memory.lists().map(fixed);
-    let refusal = calls::read_set(file, m, &mut three, counts, paid, incurred);
+    let refusal = calls::read_set(file, m, &mut has_incurred, counts, paid, incurred);
     same(
         "read, refusal",
         Some(refusal).filter(|&n| n != 0),
@@ -31,11 +31,11 @@ pub fn compare_file(seed: u64, file: &[u8], m: u64) -> Result<bool, Difference> 
     match &wanted {
         Ok(set) => {
             let lists: [&[i64]; 3] = [&set.counts, &set.paid, &set.incurred];
-            same("read, flag", three, u8::from(set.incurred_there), text)?;
+            same("read, flag", has_incurred, u8::from(set.has_incurred), text)?;
             memory.holds("read", Some(&lists), text)?;
         }
         Err(_) => {
-            same("read, flag", three, flag, text)?;
+            same("read, flag", has_incurred, flag, text)?;
             memory.holds("read", None, text)?;
         }
     }
@@ -56,6 +56,6 @@ fn of(set: &Set) -> TriangleSet {
         m: set.m,
         counts: Triangle::new(set.counts),
         paid: Triangle::new(set.paid),
-        incurred: set.incurred_there.then(|| Triangle::new(set.incurred)),
+        incurred: set.has_incurred.then(|| Triangle::new(set.incurred)),
     }
 }

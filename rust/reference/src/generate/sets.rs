@@ -25,7 +25,7 @@ pub fn any_set(random: &mut Random) -> Set {
         9 => even_parts(random, &mut set),
         _ => unpaid_years(random, &mut set),
     }
-    if set.incurred_there {
+    if set.has_incurred {
         fill_incurred(random, &mut set);
     }
     set

@@ -64,7 +64,7 @@ fn case(
 }
 
 fn read(file: &'static [u8], m: usize) -> Case {
-    let mut has_incurred = 0;
+    let mut has_incurred = false;
     let [mut counts, mut paid, mut incurred] = [[0; 400]; 3];
     case(
         "read",

@@ -8,7 +8,7 @@ mod foreign {
             file: *const u8,
             file_len: usize,
             m: usize,
-            has_incurred: *mut u8,
+            has_incurred: *mut bool,
             counts: *mut [i64; 400],
             paid: *mut [i64; 400],
             incurred: *mut [i64; 400],
@@ -86,25 +86,25 @@ mod foreign {
 }
 
 /// The set of a file: each triangle with cell (i,j) at 20 × (i-1) + j and zeros elsewhere, and
-/// `has_incurred`, 1 where incurred is there, else 0.
+/// `has_incurred`, whether incurred is there.
 ///
 /// ```
 /// use pardesul::calls::read_set;
 ///
-/// let (mut has_incurred, mut counts, mut paid, mut incurred) = (9, [9; 400], [9; 400], [9; 400]);
+/// let (mut has_incurred, [mut counts, mut paid, mut incurred]) = (true, [[9; 400]; 3]);
 /// assert_eq!(read_set(&[], 21, &mut has_incurred, &mut counts, &mut paid, &mut incurred), 1);
-/// assert_eq!((has_incurred, counts, paid, incurred), (9, [9; 400], [9; 400], [9; 400]));
+/// assert_eq!((has_incurred, [counts, paid, incurred]), (true, [[9; 400]; 3]));
 /// ```
 pub fn read_set(
     file: &[u8],
     m: usize,
-    has_incurred: &mut u8,
+    has_incurred: &mut bool,
     counts: &mut [i64; 400],
     paid: &mut [i64; 400],
     incurred: &mut [i64; 400],
 ) -> u64 {
     // SAFETY: the pointers are of references, which are valid and, where they are written through,
-    // unshared.
+    // unshared. The library writes a byte 0 or 1 to `has_incurred`, which a bool may hold.
     unsafe {
         foreign::pardesul_read_set(
             file.as_ptr(),

@@ -1,6 +1,6 @@
 //! The reader.
 
-use super::fixed;
+use super::{fixed, numbered};
 use crate::difference::{hexadecimal, same, Difference};
 use crate::memory::Memory;
 use pardesul::{calls, Triangle, TriangleSet};
@@ -17,8 +17,8 @@ pub fn compare_file(seed: u64, file: &[u8], m: u64) -> Result<bool, Difference> 
     let wanted = read_set(file, m);
     let m = m as usize;
 
-    let flag = seed as u8;
-    let mut has_incurred = flag;
+    let before = seed & 1 == 1;
+    let mut has_incurred = before;
     let mut memory = Memory::new(seed, &[400; 3]);
     let [counts, paid, incurred] = memory.lists().map(fixed);
     let refusal = calls::read_set(file, m, &mut has_incurred, counts, paid, incurred);
@@ -31,22 +31,17 @@ pub fn compare_file(seed: u64, file: &[u8], m: u64) -> Result<bool, Difference> 
     match &wanted {
         Ok(set) => {
             let lists: [&[i64]; 3] = [&set.counts, &set.paid, &set.incurred];
-            same("read, flag", has_incurred, u8::from(set.has_incurred), text)?;
+            same("read, flag", has_incurred, set.has_incurred, text)?;
             memory.holds("read", Some(&lists), text)?;
         }
         Err(_) => {
-            same("read, flag", has_incurred, flag, text)?;
+            same("read, flag", has_incurred, before, text)?;
             memory.holds("read", None, text)?;
         }
     }
 
-    let natural = TriangleSet::read(file, m).map_err(|refusal| refusal.number());
-    same(
-        "TriangleSet::read",
-        natural,
-        wanted.map(|set| of(&set)),
-        text,
-    )?;
+    let found = numbered(TriangleSet::read(file, m));
+    same("TriangleSet::read", found, wanted.map(|set| of(&set)), text)?;
     Ok(refusal == 0)
 }
 

@@ -4,6 +4,7 @@
 mod damage;
 mod edges;
 mod incurred;
+mod patterns;
 mod random;
 mod sets;
 

@@ -10,8 +10,8 @@
  * Amounts are whole currency units. A triangle is 400 numbers, cell (i,j) at PARDESUL_PLACE(i, j).
  *
  * Files. A file has a record of 16 bytes for each cell of counts and paid, or of counts, paid and
- * incurred, once and in any order: byte 0 the kind (0 count, 1 paid, 2 incurred), byte 1 i, byte 2
- * j, bytes 3 to 7 zero, bytes 8 to 15 the value, two's complement, least byte first.
+ * incurred, once and in any order: a byte for the kind (0 count, 1 paid, 2 incurred), one for i,
+ * one for j, five that are 0, and the value as a signed 64-bit number, least byte first.
  *
  * Answers. A call hands back its refusal number, but for pardesul_respond and pardesul_tally_add:
  * PARDESUL_ACCEPTED, or the number of the first question that got a no. A refused call writes

@@ -105,8 +105,8 @@ fn pieces() {
     }
 }
 
-/// The longest legal input, a first line of 15 bytes and a set of 20 years with incurred, is answered
-/// in full; a byte more is refused, however it arrives.
+/// The longest legal input, a first line of 15 bytes and a set of 20 years with incurred, is
+/// answered in full; a byte more is refused, however it arrives.
 #[test]
 fn longest_input() {
     let mut random = Random::new(20);

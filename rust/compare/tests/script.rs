@@ -1,5 +1,5 @@
-//! The script `closing`, which has `rt` bring the program up to date and runs it: what it prints and
-//! the status that it ends with.
+//! The script `closing`, which has `rt` bring the program up to date and runs it: what it prints
+//! and the status that it ends with.
 
 use std::env;
 use std::fs::{create_dir_all, read, set_permissions, write, File, Permissions};
@@ -29,8 +29,8 @@ fn ends_with(output: &Output, status: i32) {
     assert_eq!(output.status.code(), Some(status), "{said}");
 }
 
-/// A forecast, of a file that is named or of standard input. The first run may have to prove and build;
-/// the next one has nothing to say of that.
+/// A forecast, of a file that is named or of standard input. The first run may have to prove and
+/// build; the next one has nothing to say of that.
 #[test]
 fn a_forecast() {
     let wanted = read(example("source_002.output")).unwrap();

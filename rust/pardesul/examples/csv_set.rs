@@ -1,8 +1,10 @@
-//! A set's file from triangles in CSV: `csv_set FOLDER [METHOD BASIS]` reads `counts.csv`, `paid.csv`
-//! and, where it is there, `incurred.csv` of the folder, and writes the set's file to standard output;
-//! with a method and a basis it writes an input of `closing`, which has a first line before the file.
+//! A set's file from triangles in CSV: `csv_set FOLDER [METHOD BASIS]` reads `counts.csv`,
+//! `paid.csv` and, where it is there, `incurred.csv` of the folder, and writes the set's file to
+//! standard output; with a method and a basis it writes an input of `closing`, which has a first
+//! line before the file.
 //!
-//! A line is an accident year, with its delays across; cells past the diagonal are empty or left out.
+//! A line is an accident year, with its delays across; cells past the diagonal are empty or left
+//! out.
 
 use pardesul::{Triangle, TriangleSet};
 use std::error::Error;

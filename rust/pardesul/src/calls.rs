@@ -1,6 +1,6 @@
 //! The calls of the static library over lent memory, one function for each. The answer is the
-//! refusal number, but for [`respond`]: 0 where the call is accepted; a refusal leaves lent memory as
-//! it was.
+//! refusal number, but for [`respond`]: 0 where the call is accepted; a refusal leaves lent memory
+//! as it was.
 
 mod foreign {
     extern "C" {
@@ -151,8 +151,8 @@ pub fn write_set(
     }
 }
 
-/// Shares and ultimates: b and N of counts; q, g and U of paid. Delay j stands at place j, year i at
-/// place i - 1, and zeros in the other places.
+/// Shares and ultimates: b and N of counts; q, g and U of paid. Delay j stands at place j, year i
+/// at place i - 1, and zeros in the other places.
 ///
 /// ```
 /// use pardesul::calls::shares;
@@ -189,8 +189,8 @@ pub fn delays(file: &[u8], m: usize, p: &mut [i64; 20]) -> u64 {
 }
 
 /// The claim costs: mu; f(j) of paid at place j - 1, and zeros in the other places; of year i's
-/// inflation at place i - 1 the kind, 0 the base year, 1 no payments yet, 2 a ratio, and the ratio, 0
-/// where there is none. The kind is 1 in the other places.
+/// inflation at place i - 1 the kind, 0 the base year, 1 no payments yet, 2 a ratio, and the ratio,
+/// 0 where there is none. The kind is 1 in the other places.
 ///
 /// ```
 /// use pardesul::calls::claim_costs;
@@ -214,8 +214,8 @@ pub fn claim_costs(
 }
 
 /// The forecast: 2m(2m-1) entries at the front of `out`, where those past them stay, and the
-/// leftover of year i at place i - 1. Entry 2 × ((i-1) × (2m-1) + j) is RBNS of year i at delay j, the
-/// next one IBNR. Methods 0 DCL, 1 BDCL, 2 IDCL; bases 0 actual, 1 estimated counts.
+/// leftover of year i at place i - 1. Entry 2 × ((i-1) × (2m-1) + j) is RBNS of year i at delay j,
+/// the next one IBNR. Methods 0 DCL, 1 BDCL, 2 IDCL; bases 0 actual, 1 estimated counts.
 ///
 /// ```
 /// use pardesul::calls::forecast;
@@ -298,8 +298,8 @@ pub fn tally_add(
     unsafe { foreign::pardesul_tally_add(rbns, ibnr, year, reported, unreported) }
 }
 
-/// Writes the text that `closing` prints for the input to the front of `out`, where the bytes past it
-/// stay, and hands back its length; hands back 0 and writes nothing where `out` is too short.
+/// Writes the text that `closing` prints for the input to the front of `out`, where the bytes past
+/// it stay, and hands back its length; hands back 0 and writes nothing where `out` is too short.
 ///
 /// ```
 /// use pardesul::calls::respond;

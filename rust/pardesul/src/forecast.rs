@@ -66,7 +66,8 @@ impl TryFrom<u64> for Basis {
 pub struct Forecast {
     m: usize,
     entries: Vec<i64>,
-    /// What [`Method::Idcl`] leaves over, year 1 first: zero but for a year whose paid reserve is zero.
+    /// What [`Method::Idcl`] leaves over, year 1 first: zero but for a year whose paid reserve is
+    /// zero.
     pub leftovers: Vec<i64>,
 }
 

@@ -10,7 +10,8 @@ fn text(path: &str) -> String {
     read_to_string(root.join(path)).unwrap()
 }
 
-/// The header's constants that start so: the number of each, and the words of the comment before it.
+/// The header's constants that start so: the number of each, and the words of the comment before
+/// it.
 fn constants(start: &str) -> Vec<(u64, String)> {
     let mut words = String::new();
     let mut found = Vec::new();

@@ -1,5 +1,5 @@
-//! Measures, and writes docs/RECORDS.md. Of the gate's last run it takes the seconds, where the logs
-//! are there; else those that are written stay.
+//! Measures, and writes docs/RECORDS.md. Of the gate's last run it takes the seconds, where the
+//! logs are there; else those that are written stay.
 
 use records::{kit, root, text, Seconds, COMMAND};
 use std::fs;

@@ -1,4 +1,4 @@
-//! Section "Back-test".
+//! 01, Back-test.
 
 use crate::big::Big;
 use crate::forecast::{entry, forecast_set, question_6};
@@ -23,11 +23,10 @@ pub fn back_test(
 ) -> Result<BackTest, Refusal> {
     let set = read_set(file, m)?;
     question_6(&set, method, basis)?;
-    // 8. "Is c 1 to m - 2?"
+    // Question 8.
     if c < 1 || c > m - 2 {
         return Err(8);
     }
-    // "With cut c and s = m - c"
     let s = set.m - c as usize;
     let forecast = forecast_set(&cut_set(&set, s), method, basis)?;
     // The error of a cell: RBNS + IBNR less paid.
@@ -53,7 +52,7 @@ pub fn back_test(
     })
 }
 
-/// "keep cells with i + j <= s and forecast them as a set of size s"
+/// The set of s years that was known c years earlier.
 pub fn cut_set(set: &Set, s: usize) -> Set {
     let mut cut = Set::empty(s, set.has_incurred);
     for kind in 0..set.kinds() {
@@ -64,7 +63,7 @@ pub fn cut_set(set: &Set, s: usize) -> Set {
     cut
 }
 
-/// "Compare RBNS + IBNR with paid where i <= s, j < s, s < i + j <= m."
+/// The cells of the full set that the cut set has forecast at delays below s.
 fn compared_cells(m: usize, s: usize) -> Vec<(usize, usize)> {
     cells(m)
         .filter(|&(i, j)| i <= s && j < s && s < i + j)

@@ -1,5 +1,4 @@
-//! Section "Examples from a small shelf": each example once, for this calculation and for the
-//! library.
+//! 01, Examples from a small shelf: each example once, for this calculation and for the library.
 
 use crate::back_test::{back_test, BackTest};
 use crate::calendar::closing;
@@ -10,7 +9,7 @@ use crate::records::{place, Refusal, Set};
 use crate::shares::{shares, Shares};
 use Number::{Cells, Cellwise, Ibnr, Overall, Rbns, Together, Yearwise, B, N, P, Q, U};
 
-/// Triangles by rows, as the document prints them: "80, 20 / 90".
+/// The set of triangles by rows.
 pub fn set(counts: &[&[i64]], paid: &[&[i64]], incurred: Option<&[&[i64]]>) -> Set {
     let mut set = Set::empty(counts.len(), incurred.is_some());
     let triangles = [counts, paid, incurred.unwrap_or(&[])];
@@ -197,7 +196,7 @@ pub const EXAMPLES: &[Example] = &[
         printed: Printed::Numbers(&[(Rbns(1, 2), 63), (Ibnr(1, 2), 0)]),
     },
     Example {
-        says: "`closing` with \"2 0 1\" and K without incurred prints these lines",
+        says: "`closing` on K without incurred, method 0, basis 1",
         rows: K_WITHOUT_INCURRED,
         call: Call::Closing { line: "2 0 1\n" },
         printed: Printed::Lines("1 338 165 503\n2 0 69 69\nT 338 234 572\n"),
@@ -251,7 +250,7 @@ pub const EXAMPLES: &[Example] = &[
         printed: Printed::Refused(11),
     },
     Example {
-        says: "With 1, 999, question 11 is passed",
+        says: "Row 1 counts 1, 999: accepted by the shares",
         rows: NOT_SO_THIN,
         call: Call::Shares,
         printed: Printed::Passed,

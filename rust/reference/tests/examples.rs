@@ -57,7 +57,7 @@ fn actual_counts_of_k() {
     }
 }
 
-/// "Row 1 counts 1, 1000: g(0) = 999,001"; with 1, 999 it is 10^6.
+/// g(0) of row 1 with counts 1, 1000 is 999,001; with 1, 999 it is 10^6.
 #[test]
 fn least_first_share() {
     let first = |late: i64| {

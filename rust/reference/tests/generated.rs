@@ -131,8 +131,8 @@ fn known_cells_are_zero() {
     }
 }
 
-/// "The number is the sum of s - t for t = 1 to the smaller of c and s - 1", and a sum's error
-/// never exceeds the sum of its parts' errors.
+/// The number of cells is s - 1, s - 2, .. summed over the cut years that have one, and a sum's
+/// error never exceeds the sum of its parts' errors.
 #[test]
 fn back_tests_are_consistent() {
     let mut accepted = 0;

@@ -6,7 +6,8 @@ use crate::memory::Memory;
 use pardesul::calls;
 use reference::generate::Case;
 
-/// mu, the factors and the inflations, of an inflation its kind and its ratio, 0 where there is none.
+/// mu, the factors and the inflations, of an inflation its kind and its ratio, 0 where there is
+/// none.
 type Bits = (u64, Vec<u64>, Vec<(u8, u64)>);
 
 pub fn compare(seed: u64, case: &Case) -> Result<bool, Difference> {

@@ -89,7 +89,8 @@ fn both_ways<T>(
     ]
 }
 
-/// The method and basis of a case in the types of the safe crate, which refuses other numbers with 6.
+/// The method and basis of a case in the types of the safe crate, which refuses other numbers with
+/// 6.
 fn method_and_basis(seed: u64, case: &Case) -> Result<Option<(Method, Basis)>, Difference> {
     let found =
         Method::try_from(case.method).and_then(|method| Ok((method, Basis::try_from(case.basis)?)));

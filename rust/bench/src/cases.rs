@@ -37,7 +37,7 @@ fn accepted_file(m: usize) -> Vec<u8> {
     let mut random = Random::new(m as u64);
     loop {
         let set = any_set(&mut random);
-        if set.m != m || !set.incurred_there {
+        if set.m != m || !set.has_incurred {
             continue;
         }
         let file = shuffled_file(&mut random, &set);
@@ -64,7 +64,7 @@ fn case(
 }
 
 fn read(file: &'static [u8], m: usize) -> Case {
-    let mut three = 0;
+    let mut has_incurred = false;
     let [mut counts, mut paid, mut incurred] = [[0; 400]; 3];
     case(
         "read",
@@ -73,7 +73,7 @@ fn read(file: &'static [u8], m: usize) -> Case {
             black_box(calls::read_set(
                 black_box(file),
                 m,
-                &mut three,
+                &mut has_incurred,
                 &mut counts,
                 &mut paid,
                 &mut incurred,

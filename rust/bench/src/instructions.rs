@@ -24,8 +24,8 @@ pub fn asked_to_count() -> bool {
     env::args().nth(1).is_some_and(|word| word == COUNT)
 }
 
-/// Makes each call, and has callgrind write its instructions out under its name. A first call is not
-/// counted: library functions may be bound in it.
+/// Makes each call, and has callgrind write its instructions out under its name. A first call is
+/// not counted: library functions may be bound in it.
 pub fn count() {
     let mut cases = cases();
     callgrind::start();
@@ -40,9 +40,9 @@ pub fn count() {
     }
 }
 
-/// What a run of this program under valgrind counts. The C library copies by plain 16-byte moves: so
-/// the counts are those of any x86-64 machine, and a repeated string instruction, which callgrind would
-/// count once for each byte, does not occur.
+/// What a run of this program under valgrind counts. The C library copies by plain 16-byte moves:
+/// so the counts are those of any x86-64 machine, and a repeated string instruction, which
+/// callgrind would count once for each byte, does not occur.
 pub fn instructions(program: &Path) -> Result<Vec<Instructions>, String> {
     let path = program.with_extension("callgrind");
     let output = Command::new("valgrind")
@@ -64,8 +64,8 @@ pub fn instructions(program: &Path) -> Result<Vec<Instructions>, String> {
     read(&text).ok_or_else(|| format!("{} is not as callgrind writes it", path.display()))
 }
 
-/// Reads callgrind's file: a part with a name and a total for each dump, the proved call's before the
-/// plain one's, and a part without a name for the program's end.
+/// Reads callgrind's file: a part with a name and a total for each dump, the proved call's before
+/// the plain one's, and a part without a name for the program's end.
 fn read(text: &str) -> Option<Vec<Instructions>> {
     let lines = |start| {
         text.lines()

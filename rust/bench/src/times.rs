@@ -3,7 +3,8 @@
 use crate::cases::Case;
 use std::time::Instant;
 
-/// How often all cases are gone through, so that a busy moment of the machine meets few turns of one.
+/// How often all cases are gone through, so that a busy moment of the machine meets few turns of
+/// one.
 const PASSES: usize = 10;
 
 /// Turns in a pass, by each side of a case in turn.

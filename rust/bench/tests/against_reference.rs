@@ -26,10 +26,10 @@ fn plain_inflation(inflation: &Inflation) -> plain::Inflation {
 #[test]
 fn reader() {
     each_case(|seed, case| {
-        let found =
-            plain::read_set(&case.file, case.m as usize).map(|set| (set.three, set.triangles));
+        let found = plain::read_set(&case.file, case.m as usize)
+            .map(|set| (set.has_incurred, set.triangles));
         let wanted = reference::read_set(&case.file, case.m);
-        let wanted = wanted.map(|set| (set.incurred_there, [set.counts, set.paid, set.incurred]));
+        let wanted = wanted.map(|set| (set.has_incurred, [set.counts, set.paid, set.incurred]));
         assert_eq!(found, wanted, "seed {seed}");
     });
 }
@@ -105,9 +105,9 @@ fn back_test() {
         let wanted = reference::back_test(&case.file, case.m, case.cut, case.method, case.basis);
         let wanted = wanted.map(|wanted| plain::BackTest {
             cells: wanted.cells,
-            cellwise: wanted.by_cell,
-            yearwise: wanted.by_year,
-            overall: wanted.in_all,
+            cellwise: wanted.cellwise,
+            yearwise: wanted.yearwise,
+            overall: wanted.overall,
         });
         assert_eq!(found, wanted, "seed {seed}");
     });

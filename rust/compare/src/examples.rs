@@ -1,5 +1,5 @@
-//! The examples of document 01, and sets at the edges of its questions: what the document prints, and
-//! every call on the file.
+//! The examples of document 01, and sets at the edges of its questions: what the document prints,
+//! and every call on the file.
 
 use crate::difference::{same, Difference};
 use crate::{files, respond, Accepted};
@@ -64,12 +64,12 @@ fn answer(example: &Example) -> Answer {
         Call::BackTest { method, basis, cut } => {
             let mut sums = [0; 4];
             let refusal = calls::back_test(&file, m, method, basis, cut as usize, &mut sums);
-            let [cells, by_cell, by_year, in_all] = sums;
+            let [cells, cellwise, yearwise, overall] = sums;
             let test = BackTest {
                 cells,
-                by_cell,
-                by_year,
-                in_all,
+                cellwise,
+                yearwise,
+                overall,
             };
             (refusal, Answer::BackTest(test))
         }
@@ -95,7 +95,8 @@ fn case(m: u64, file: Vec<u8>, method: u64, basis: u64, cut: u64) -> Case {
     }
 }
 
-/// Every call on a case against the reference, its lent memory included: a refusal leaves all of it.
+/// Every call on a case against the reference, its lent memory included: a refusal leaves all of
+/// it.
 fn in_lent_memory(seed: u64, case: Case) -> Result<(), Difference> {
     let line = format!("{} {} {}\n", case.m, case.method, case.basis);
     let input = [line.as_bytes(), &case.file].concat();

@@ -1,5 +1,5 @@
-//! The long comparison: `compare COUNT [FIRST]` compares the examples of document 01, and runs every
-//! comparison on the seeds FIRST (or 0) to FIRST + COUNT - 1.
+//! The long comparison: `compare COUNT [FIRST]` compares the examples of document 01, and runs
+//! every comparison on the seeds FIRST (or 0) to FIRST + COUNT - 1.
 
 use compare::{edges, examples, COMPARISONS};
 use std::env;

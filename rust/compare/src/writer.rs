@@ -25,7 +25,7 @@ pub fn of_case(seed: u64, accepted: &mut Accepted) -> Result<(), Difference> {
     let mut memory = before.clone();
     let refusal = calls::write_set(
         m,
-        case.incurred_there,
+        case.has_incurred,
         &case.counts,
         &case.paid,
         &case.incurred,
@@ -34,7 +34,7 @@ pub fn of_case(seed: u64, accepted: &mut Accepted) -> Result<(), Difference> {
     let mut wanted = before;
     let answer = write_set(
         case.m,
-        case.incurred_there,
+        case.has_incurred,
         &case.counts,
         &case.paid,
         &case.incurred,
@@ -42,7 +42,7 @@ pub fn of_case(seed: u64, accepted: &mut Accepted) -> Result<(), Difference> {
     );
     same("writer, refusal", refusal, answer.err().unwrap_or(0), text)?;
     if refusal == 0 {
-        let written = AROUND..AROUND + file_length(m, case.incurred_there);
+        let written = AROUND..AROUND + file_length(m, case.has_incurred);
         let read = read_set(&memory[written.clone()], case.m);
         same(
             "writer, what is written read back",
@@ -81,7 +81,7 @@ fn natural(case: &WriterCase) -> TriangleSet {
         m: case.m as usize,
         counts: Triangle::new(case.counts),
         paid: Triangle::new(case.paid),
-        incurred: case.incurred_there.then(|| Triangle::new(case.incurred)),
+        incurred: case.has_incurred.then(|| Triangle::new(case.incurred)),
     }
 }
 

@@ -8,7 +8,7 @@ use std::path::PathBuf;
 use std::process::{Command, Output, Stdio};
 
 use reference::closing;
-use reference::generate::closing_input;
+use reference::generate::{any_set, closing_input, file, Random};
 
 fn root() -> PathBuf {
     PathBuf::from(env!("CARGO_MANIFEST_DIR")).join("../..")
@@ -51,13 +51,18 @@ fn same_text(input: &[u8], piece: usize) {
     assert!(output.stderr.is_empty());
 }
 
+/// Every shipped input has its output beside it, by the program, the library and the calculation.
 #[test]
 fn examples() {
     let mut count = 0;
     for entry in read_dir(root().join("examples")).unwrap() {
         let path = entry.unwrap().path();
         if path.extension().is_some_and(|ending| ending == "input") {
-            same_text(&read(path).unwrap(), 1 << 16);
+            let (input, output) = (read(&path).unwrap(), path.with_extension("output"));
+            let output = read(&output).unwrap_or_else(|_| panic!("no {}", output.display()));
+            same_text(&input, 1 << 16);
+            assert!(closing(&input) == output, "{}", path.display());
+            assert!(pardesul::respond(&input) == output, "{}", path.display());
             count += 1;
         }
     }
@@ -97,6 +102,35 @@ fn pieces() {
     for seed in 0..20 {
         same_text(&closing_input(seed), 1);
         same_text(&closing_input(seed), 17);
+    }
+}
+
+/// The longest legal input, a first line of 15 bytes and a set of 20 years with incurred, is
+/// answered in full; a byte more is refused, however it arrives.
+#[test]
+fn longest_input() {
+    let mut random = Random::new(20);
+    let mut accepted = 0;
+    while accepted < 3 {
+        let set = any_set(&mut random);
+        if set.m != 20 || !set.has_incurred {
+            continue;
+        }
+        let input = [b"0020 0002 0001\n", &file(&set)[..]].concat();
+        assert_eq!(input.len(), 10_095);
+        let page = closing(&input);
+        if page.starts_with(b"refused") {
+            continue;
+        }
+        accepted += 1;
+        for piece in [1, 4_096, 1 << 16] {
+            same_text(&input, piece);
+        }
+        for byte in [0, b'\n', 255] {
+            let longer = [&input[..], &[byte]].concat();
+            assert_eq!(run_in_pieces(&longer, 1 << 16).stdout, b"refused 2\n");
+            same_text(&longer, 4_096);
+        }
     }
 }
 

@@ -1,6 +1,6 @@
-//! Which basic blocks of the library have run. The library is not compiled with counters, so each of
-//! its blocks gets a breakpoint, which is taken away the first time it is met; libFuzzer keeps the
-//! input that met it.
+//! Which basic blocks of the library have run. The library is not compiled with counters, so each
+//! of its blocks gets a breakpoint, which is taken away the first time it is met; libFuzzer keeps
+//! the input that met it.
 
 use crate::system::{
     atexit, mprotect, sigaction, SignalAction, INSTRUCTION_POINTER, PAGE, PROT_EXEC, PROT_READ,

@@ -1,6 +1,6 @@
 //! The calls of the static library over lent memory, one function for each. The answer is the
-//! refusal number, but for [`respond`]: 0 where the call is accepted; a refusal leaves lent memory as
-//! it was.
+//! refusal number, but for [`respond`]: 0 where the call is accepted; a refusal leaves lent memory
+//! as it was.
 
 mod foreign {
     extern "C" {
@@ -8,14 +8,14 @@ mod foreign {
             file: *const u8,
             file_len: usize,
             m: usize,
-            three: *mut u8,
+            has_incurred: *mut bool,
             counts: *mut [i64; 400],
             paid: *mut [i64; 400],
             incurred: *mut [i64; 400],
         ) -> u64;
         pub fn pardesul_write_set(
             m: usize,
-            three: bool,
+            has_incurred: bool,
             counts: *const [i64; 400],
             paid: *const [i64; 400],
             incurred: *const [i64; 400],
@@ -86,32 +86,40 @@ mod foreign {
 }
 
 /// The set of a file: each triangle with cell (i,j) at 20 × (i-1) + j and zeros elsewhere, and
-/// `three`, 1 where incurred is there, else 0.
+/// `has_incurred`, whether incurred is there.
 ///
 /// ```
 /// use pardesul::calls::read_set;
 ///
-/// let (mut three, mut counts, mut paid, mut incurred) = (9, [9; 400], [9; 400], [9; 400]);
-/// assert_eq!(read_set(&[], 21, &mut three, &mut counts, &mut paid, &mut incurred), 1);
-/// assert_eq!((three, counts, paid, incurred), (9, [9; 400], [9; 400], [9; 400]));
+/// let (mut has_incurred, [mut counts, mut paid, mut incurred]) = (true, [[9; 400]; 3]);
+/// assert_eq!(read_set(&[], 21, &mut has_incurred, &mut counts, &mut paid, &mut incurred), 1);
+/// assert_eq!((has_incurred, [counts, paid, incurred]), (true, [[9; 400]; 3]));
 /// ```
 pub fn read_set(
     file: &[u8],
     m: usize,
-    three: &mut u8,
+    has_incurred: &mut bool,
     counts: &mut [i64; 400],
     paid: &mut [i64; 400],
     incurred: &mut [i64; 400],
 ) -> u64 {
     // SAFETY: the pointers are of references, which are valid and, where they are written through,
-    // unshared.
+    // unshared. The library writes a byte 0 or 1 to `has_incurred`, which a bool may hold.
     unsafe {
-        foreign::pardesul_read_set(file.as_ptr(), file.len(), m, three, counts, paid, incurred)
+        foreign::pardesul_read_set(
+            file.as_ptr(),
+            file.len(),
+            m,
+            has_incurred,
+            counts,
+            paid,
+            incurred,
+        )
     }
 }
 
 /// Writes a set's file to the front of `out`, in an order of the library's own; the bytes past it
-/// stay. `three` says whether incurred is there.
+/// stay. `has_incurred` says whether incurred is there.
 ///
 /// ```
 /// use pardesul::calls::write_set;
@@ -123,7 +131,7 @@ pub fn read_set(
 /// ```
 pub fn write_set(
     m: usize,
-    three: bool,
+    has_incurred: bool,
     counts: &[i64; 400],
     paid: &[i64; 400],
     incurred: &[i64; 400],
@@ -133,7 +141,7 @@ pub fn write_set(
     unsafe {
         foreign::pardesul_write_set(
             m,
-            three,
+            has_incurred,
             counts,
             paid,
             incurred,
@@ -143,8 +151,8 @@ pub fn write_set(
     }
 }
 
-/// Shares and ultimates: b and N of counts; q, g and U of paid. Delay j stands at place j, year i at
-/// place i - 1, and zeros in the other places.
+/// Shares and ultimates: b and N of counts; q, g and U of paid. Delay j stands at place j, year i
+/// at place i - 1, and zeros in the other places.
 ///
 /// ```
 /// use pardesul::calls::shares;
@@ -181,8 +189,8 @@ pub fn delays(file: &[u8], m: usize, p: &mut [i64; 20]) -> u64 {
 }
 
 /// The claim costs: mu; f(j) of paid at place j - 1, and zeros in the other places; of year i's
-/// inflation at place i - 1 the kind, 0 the base year, 1 no payments yet, 2 a ratio, and the ratio, 0
-/// where there is none. The kind is 1 in the other places.
+/// inflation at place i - 1 the kind, 0 the base year, 1 no payments yet, 2 a ratio, and the ratio,
+/// 0 where there is none. The kind is 1 in the other places.
 ///
 /// ```
 /// use pardesul::calls::claim_costs;
@@ -205,9 +213,9 @@ pub fn claim_costs(
     }
 }
 
-/// The forecast: 2m(2m-1) entries at the front of `out`, where those past them stay, and the left
-/// over of year i at place i - 1. Entry 2 × ((i-1) × (2m-1) + j) is RBNS of year i at delay j, the
-/// next one IBNR. Methods 0 DCL, 1 BDCL, 2 IDCL; bases 0 actual, 1 estimated counts.
+/// The forecast: 2m(2m-1) entries at the front of `out`, where those past them stay, and the
+/// leftover of year i at place i - 1. Entry 2 × ((i-1) × (2m-1) + j) is RBNS of year i at delay j,
+/// the next one IBNR. Methods 0 DCL, 1 BDCL, 2 IDCL; bases 0 actual, 1 estimated counts.
 ///
 /// ```
 /// use pardesul::calls::forecast;
@@ -290,8 +298,8 @@ pub fn tally_add(
     unsafe { foreign::pardesul_tally_add(rbns, ibnr, year, reported, unreported) }
 }
 
-/// Writes the text that `closing` prints for the input to the front of `out`, where the bytes past it
-/// stay, and hands back its length; hands back 0 and writes nothing where `out` is too short.
+/// Writes the text that `closing` prints for the input to the front of `out`, where the bytes past
+/// it stay, and hands back its length; hands back 0 and writes nothing where `out` is too short.
 ///
 /// ```
 /// use pardesul::calls::respond;

@@ -1,8 +1,15 @@
 //! The forecast.
 
-use crate::{calls, Refusal, Tally};
+use crate::{calls, Refusal, Tally, TriangleSet};
 
-/// What the rows are based on.
+/// What the rows are based on; [`TryFrom`] takes the method's number, 0 to 2.
+///
+/// ```
+/// use pardesul::Method;
+///
+/// assert_eq!(Method::try_from(2), Ok(Method::Idcl));
+/// assert_eq!(Method::try_from(3).unwrap_err().number(), 6);
+/// ```
 #[derive(Clone, Copy, Debug, PartialEq, Eq)]
 pub enum Method {
     /// Double chain ladder: paid ultimates.
@@ -13,11 +20,45 @@ pub enum Method {
     Idcl = 2,
 }
 
-/// The counts behind the RBNS cells.
+/// The counts behind the RBNS cells; [`TryFrom`] takes the basis's number, 0 or 1.
+///
+/// ```
+/// use pardesul::Basis;
+///
+/// assert_eq!(Basis::try_from(1), Ok(Basis::Estimated));
+/// assert_eq!(Basis::try_from(2).unwrap_err().number(), 6);
+/// ```
 #[derive(Clone, Copy, Debug, PartialEq, Eq)]
 pub enum Basis {
+    /// The counts of the set.
     Actual = 0,
+    /// The counts that the chain ladder expects.
     Estimated = 1,
+}
+
+impl TryFrom<u64> for Method {
+    type Error = Refusal;
+
+    fn try_from(number: u64) -> Result<Method, Refusal> {
+        match number {
+            0 => Ok(Method::Dcl),
+            1 => Ok(Method::Bdcl),
+            2 => Ok(Method::Idcl),
+            _ => Err(Refusal::METHOD),
+        }
+    }
+}
+
+impl TryFrom<u64> for Basis {
+    type Error = Refusal;
+
+    fn try_from(number: u64) -> Result<Basis, Refusal> {
+        match number {
+            0 => Ok(Basis::Actual),
+            1 => Ok(Basis::Estimated),
+            _ => Err(Refusal::METHOD),
+        }
+    }
 }
 
 /// The forecast of a file by accident year and delay.
@@ -25,7 +66,8 @@ pub enum Basis {
 pub struct Forecast {
     m: usize,
     entries: Vec<i64>,
-    /// What [`Method::Idcl`] leaves over, year 1 first: zero but for a year whose paid reserve is zero.
+    /// What [`Method::Idcl`] leaves over, year 1 first: zero but for a year whose paid reserve is
+    /// zero.
     pub leftovers: Vec<i64>,
 }
 
@@ -77,7 +119,10 @@ impl Forecast {
     }
 }
 
-/// The forecast of a file. Refuses with 1 to 6 and 9 to 14.
+/// The forecast of a file.
+///
+/// # Errors
+/// Refuses with 1 to 6 and 9 to 14.
 pub fn forecast(file: &[u8], m: usize, method: Method, basis: Basis) -> Result<Forecast, Refusal> {
     let (mut entries, mut leftovers) = (vec![0; 1_560], [0; 20]);
     Refusal::of(calls::forecast(
@@ -94,4 +139,26 @@ pub fn forecast(file: &[u8], m: usize, method: Method, basis: Basis) -> Result<F
         entries,
         leftovers: leftovers[..m].to_vec(),
     })
+}
+
+impl TriangleSet {
+    /// The forecast of this set, as [`forecast`] has it of the set's file.
+    ///
+    /// ```
+    /// use pardesul::{Basis, Method, Triangle, TriangleSet};
+    ///
+    /// let counts = Triangle::from_rows(&[&[80, 20], &[90]]);
+    /// let paid = Triangle::from_rows(&[&[600, 400], &[660]]);
+    /// let set = TriangleSet { m: 2, counts, paid, incurred: None };
+    /// let forecast = set.forecast(Method::Dcl, Basis::Estimated)?;
+    /// assert_eq!((forecast.rbns(2, 1), forecast.ibnr(2, 1)), (275, 165));
+    /// assert_eq!(set.forecast(Method::Bdcl, Basis::Estimated).unwrap_err().number(), 6);
+    /// # Ok::<(), pardesul::Refusal>(())
+    /// ```
+    ///
+    /// # Errors
+    /// Refuses with 1, 5, 6 and 9 to 14.
+    pub fn forecast(&self, method: Method, basis: Basis) -> Result<Forecast, Refusal> {
+        forecast(&self.to_file()?, self.m, method, basis)
+    }
 }

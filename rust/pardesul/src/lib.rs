@@ -1,9 +1,9 @@
 //! Claims reserving for closing accounts, from Rust: a safe crate over the proved library.
 //!
-//! A set of run-off triangles is read from a file and written to one:
+//! A set of run-off triangles is forecast, split into RBNS and IBNR:
 //!
 //! ```
-//! use pardesul::{Triangle, TriangleSet};
+//! use pardesul::{Basis, Method, Triangle, TriangleSet};
 //!
 //! let set = TriangleSet {
 //!     m: 2,
@@ -11,39 +11,42 @@
 //!     paid: Triangle::from_rows(&[&[600, 400], &[660]]),
 //!     incurred: None,
 //! };
-//! let file = set.to_file()?;
-//! assert_eq!(file.len(), 96);
-//! assert_eq!(TriangleSet::read(&file, 2)?, set);
-//!
-//! let refusal = TriangleSet::read(&file, 3).unwrap_err();
-//! assert_eq!(refusal.number(), 2);
+//! let forecast = set.forecast(Method::Dcl, Basis::Estimated)?;
+//! assert_eq!((forecast.rbns(2, 1), forecast.ibnr(2, 1)), (275, 165));
+//! assert_eq!(forecast.tally().rbns[0], 338);
 //! # Ok::<(), pardesul::Refusal>(())
 //! ```
 //!
-//! and forecast, split into RBNS and IBNR:
+//! It is written to a file and read from one; a call on the file is a function of the same name:
 //!
 //! ```
-//! use pardesul::{forecast, Basis, Method};
-//! # use pardesul::{Triangle, TriangleSet};
+//! # use pardesul::{Basis, Method, Triangle, TriangleSet};
 //! # let set = TriangleSet {
 //! #     m: 2,
 //! #     counts: Triangle::from_rows(&[&[80, 20], &[90]]),
 //! #     paid: Triangle::from_rows(&[&[600, 400], &[660]]),
 //! #     incurred: None,
 //! # };
-//! # let file = set.to_file()?;
+//! let file = set.to_file()?;
+//! assert_eq!(file.len(), 96);
+//! assert_eq!(TriangleSet::read(&file, 2)?, set);
 //!
-//! let forecast = forecast(&file, 2, Method::Dcl, Basis::Estimated)?;
-//! assert_eq!((forecast.rbns(2, 1), forecast.ibnr(2, 1)), (275, 165));
-//! assert_eq!(forecast.tally().rbns[0], 338);
+//! let forecast = pardesul::forecast(&file, 2, Method::Dcl, Basis::Estimated)?;
+//! assert_eq!(forecast, set.forecast(Method::Dcl, Basis::Estimated)?);
+//!
+//! let refusal = TriangleSet::read(&file, 3).unwrap_err();
+//! assert_eq!(refusal.number(), 2);
 //! # Ok::<(), pardesul::Refusal>(())
 //! ```
 //!
 //! The other calls are [`shares`], [`delays`], [`claim_costs`], [`back_test`], [`Tally::add`] and
-//! [`respond`], the text of the program `closing`. [`calls`] has the calls themselves, over memory that
-//! the caller lends.
+//! [`respond`], the text of the program `closing`. [`calls`] has the calls themselves, over memory
+//! that the caller lends.
 //!
-//! The crate links `target/staticlib/libc_api.a` of its repository, which `rt staticlib c_api` writes.
+//! The crate links `target/staticlib/libc_api.a` of its repository, which `rt staticlib c_api`
+//! writes.
+
+#![deny(missing_docs)]
 
 mod back_test;
 pub mod calls;

@@ -3,7 +3,28 @@
 use std::error::Error;
 use std::fmt;
 
-/// The first question that got a no: its number and what it asks.
+/// What is wrong where question n gets a no, at place n - 1. The header and README.md say the same,
+/// which a test holds.
+const MESSAGES: [&str; 14] = [
+    "m is not 2 to 20",
+    "the length is not that of a set",
+    "a record has a kind that the length does not allow, a cell outside the triangle, or a byte \
+     3 to 7 that is not 0",
+    "a cell is missing or stands there more than once",
+    "a value is out of range: counts 0 to 10^7, paid 0 to 10^10, incurred -10^10 to 10^10",
+    "there is no such method or basis, or the method needs incurred and there is none",
+    "the output is too short",
+    "the back-test's cut is not 1 to m - 2",
+    "a row has no count above zero",
+    "a paid B(j) is zero",
+    "g(0) of counts or of paid is below 10^6",
+    "a delay is outside -8 × 10^9 to 8 × 10^9",
+    "an incurred A(j) or B(j) is not above zero, a latest incurred row sum is negative, or an \
+     incurred g(j) is outside 10^6 to 4 × 10^9",
+    "a row base is outside -2 × 10^14 to 2 × 10^14",
+];
+
+/// The first question that got a no: its number and what is wrong.
 ///
 /// ```
 /// use pardesul::TriangleSet;
@@ -17,6 +38,14 @@ use std::fmt;
 pub struct Refusal(u64);
 
 impl Refusal {
+    /// No such method or basis.
+    pub(crate) const METHOD: Refusal = Refusal(6);
+
+    /// Every refusal, in the order of their numbers.
+    pub fn all() -> impl Iterator<Item = Refusal> {
+        (1..=MESSAGES.len() as u64).map(Refusal)
+    }
+
     /// What a call that answered with this number says.
     pub(crate) fn of(number: u64) -> Result<(), Refusal> {
         match number {
@@ -25,30 +54,14 @@ impl Refusal {
         }
     }
 
-    /// The question's number.
+    /// The question's number, 1 to 14.
     pub fn number(self) -> u64 {
         self.0
     }
 
     /// What is wrong, in words.
     pub fn message(self) -> &'static str {
-        match self.0 {
-            1 => "m is not 2 to 20",
-            2 => "the length is not that of a set",
-            3 => "a record has a wrong kind, a cell outside the triangle, or a byte 3 to 7 that is not 0",
-            4 => "a cell is missing or stands there more than once",
-            5 => "a value is out of range",
-            6 => "there is no such method or basis, or the method needs incurred and there is none",
-            7 => "the output is too short",
-            8 => "the cut is not 1 to m - 2",
-            9 => "a row has no count above zero",
-            10 => "a paid B(j) is zero",
-            11 => "g(0) of counts or of paid is below 10^6",
-            12 => "a delay is outside -8 × 10^9 to 8 × 10^9",
-            13 => "an incurred A(j) or B(j) is not above zero, a latest incurred row sum is negative, or an incurred g(j) is outside 10^6 to 4 × 10^9",
-            14 => "a row base is outside -2 × 10^14 to 2 × 10^14",
-            _ => "no question has this number",
-        }
+        MESSAGES[self.0 as usize - 1]
     }
 }
 

@@ -1,6 +1,6 @@
 //! Shares, ultimates and delays.
 
-use crate::{calls, Refusal};
+use crate::{calls, Refusal, TriangleSet};
 
 /// Shares in billionths by delay, and ultimates by accident year: each list has m numbers.
 #[derive(Clone, Debug, PartialEq, Eq)]
@@ -17,18 +17,10 @@ pub struct Shares {
     pub u: Vec<i64>,
 }
 
-/// The chain ladder of counts and paid of a file. Refuses with 1 to 5 and 9 to 11.
+/// The chain ladder of counts and paid of a file.
 ///
-/// ```
-/// use pardesul::{shares, Triangle, TriangleSet};
-///
-/// let counts = Triangle::from_rows(&[&[80, 20], &[90]]);
-/// let paid = Triangle::from_rows(&[&[600, 400], &[660]]);
-/// let set = TriangleSet { m: 2, counts, paid, incurred: None };
-/// let shares = shares(&set.to_file()?, 2)?;
-/// assert_eq!((shares.n, shares.u), (vec![100, 113], vec![1_000, 1_100]));
-/// # Ok::<(), pardesul::Refusal>(())
-/// ```
+/// # Errors
+/// Refuses with 1 to 5 and 9 to 11.
 pub fn shares(file: &[u8], m: usize) -> Result<Shares, Refusal> {
     let [mut b, mut n, mut q, mut g, mut u] = [[0; 20]; 5];
     Refusal::of(calls::shares(
@@ -38,20 +30,50 @@ pub fn shares(file: &[u8], m: usize) -> Result<Shares, Refusal> {
     Ok(Shares { b, n, q, g, u })
 }
 
-/// The delays of a file in billionths, by payment delay; one may be negative. Refuses with 1 to 5
-/// and 9 to 12.
+/// The delays of a file in billionths, by payment delay; one may be negative.
 ///
-/// ```
-/// use pardesul::{delays, Triangle, TriangleSet};
-///
-/// let counts = Triangle::from_rows(&[&[80, 20], &[90]]);
-/// let paid = Triangle::from_rows(&[&[600, 400], &[660]]);
-/// let set = TriangleSet { m: 2, counts, paid, incurred: None };
-/// assert_eq!(delays(&set.to_file()?, 2)?, [750_000_000, 312_500_000]);
-/// # Ok::<(), pardesul::Refusal>(())
-/// ```
+/// # Errors
+/// Refuses with 1 to 5 and 9 to 12.
 pub fn delays(file: &[u8], m: usize) -> Result<Vec<i64>, Refusal> {
     let mut p = [0; 20];
     Refusal::of(calls::delays(file, m, &mut p))?;
     Ok(p[..m].to_vec())
+}
+
+impl TriangleSet {
+    /// The chain ladder of this set, as [`shares`] has it of the set's file.
+    ///
+    /// ```
+    /// use pardesul::{Triangle, TriangleSet};
+    ///
+    /// let counts = Triangle::from_rows(&[&[80, 20], &[90]]);
+    /// let paid = Triangle::from_rows(&[&[600, 400], &[660]]);
+    /// let shares = TriangleSet { m: 2, counts, paid, incurred: None }.shares()?;
+    /// assert_eq!((shares.n, shares.u), (vec![100, 113], vec![1_000, 1_100]));
+    /// # Ok::<(), pardesul::Refusal>(())
+    /// ```
+    ///
+    /// # Errors
+    /// Refuses with 1, 5 and 9 to 11.
+    pub fn shares(&self) -> Result<Shares, Refusal> {
+        shares(&self.to_file()?, self.m)
+    }
+
+    /// The delays of this set, as [`delays`] has them of the set's file.
+    ///
+    /// ```
+    /// use pardesul::{Triangle, TriangleSet};
+    ///
+    /// let counts = Triangle::from_rows(&[&[80, 20], &[90]]);
+    /// let paid = Triangle::from_rows(&[&[600, 400], &[660]]);
+    /// let set = TriangleSet { m: 2, counts, paid, incurred: None };
+    /// assert_eq!(set.delays()?, [750_000_000, 312_500_000]);
+    /// # Ok::<(), pardesul::Refusal>(())
+    /// ```
+    ///
+    /// # Errors
+    /// Refuses with 1, 5 and 9 to 12.
+    pub fn delays(&self) -> Result<Vec<i64>, Refusal> {
+        delays(&self.to_file()?, self.m)
+    }
 }

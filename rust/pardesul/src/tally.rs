@@ -13,7 +13,9 @@ use crate::calls;
 /// ```
 #[derive(Clone, Debug, PartialEq, Eq)]
 pub struct Tally {
+    /// Reported but not settled.
     pub rbns: [i64; 38],
+    /// Incurred but not reported.
     pub ibnr: [i64; 38],
 }
 

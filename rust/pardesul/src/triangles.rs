@@ -69,7 +69,7 @@ impl Triangle {
     }
 }
 
-/// "cell (i,j) at 20 × (i-1) + j"
+/// Where a cell stands among the values.
 fn place(year: usize, delay: usize) -> usize {
     assert!(
         (1..=MOST).contains(&year) && delay < MOST,
@@ -87,22 +87,28 @@ impl fmt::Debug for Triangle {
 /// Counts and paid, with or without incurred, of m accident years.
 #[derive(Clone, Debug, PartialEq, Eq)]
 pub struct TriangleSet {
+    /// The number of accident years.
     pub m: usize,
+    /// Reported claims, by accident year and reporting delay.
     pub counts: Triangle,
+    /// Payments, by accident year and payment delay.
     pub paid: Triangle,
+    /// Changes of the incurred amounts, by accident year and delay.
     pub incurred: Option<Triangle>,
 }
 
 impl TriangleSet {
-    /// The set that a file holds, its records in any order; zeros stand outside the cells. Refuses
-    /// with 1 to 5.
+    /// The set that a file holds, its records in any order; zeros stand outside the cells.
+    ///
+    /// # Errors
+    /// Refuses with 1 to 5.
     pub fn read(file: &[u8], m: usize) -> Result<TriangleSet, Refusal> {
         let (mut counts, mut paid, mut incurred) = ([0; 400], [0; 400], [0; 400]);
-        let mut three = 0;
+        let mut has_incurred = false;
         Refusal::of(calls::read_set(
             file,
             m,
-            &mut three,
+            &mut has_incurred,
             &mut counts,
             &mut paid,
             &mut incurred,
@@ -111,7 +117,7 @@ impl TriangleSet {
             m,
             counts: Triangle::new(counts),
             paid: Triangle::new(paid),
-            incurred: (three == 1).then(|| Triangle::new(incurred)),
+            incurred: has_incurred.then(|| Triangle::new(incurred)),
         })
     }
 
@@ -125,7 +131,10 @@ impl TriangleSet {
     }
 
     /// Writes the set's file to the front of `out`, where the bytes past it stay. Values outside
-    /// the cells are not looked at. Refuses with 1, 5 and 7.
+    /// the cells are not looked at.
+    ///
+    /// # Errors
+    /// Refuses with 1, 5 and 7.
     pub fn write(&self, out: &mut [u8]) -> Result<(), Refusal> {
         let incurred = self.incurred.as_ref().map_or(&[0; 400], Triangle::values);
         Refusal::of(calls::write_set(
@@ -138,7 +147,7 @@ impl TriangleSet {
         ))
     }
 
-    /// The set's file. Refuses with 1 and 5.
+    /// The set's file.
     ///
     /// ```
     /// use pardesul::{Triangle, TriangleSet};
@@ -148,6 +157,9 @@ impl TriangleSet {
     /// let set = TriangleSet { m: 2, counts, paid, incurred: None };
     /// assert_eq!(set.to_file().unwrap_err().number(), 5);
     /// ```
+    ///
+    /// # Errors
+    /// Refuses with 1 and 5.
     pub fn to_file(&self) -> Result<Vec<u8>, Refusal> {
         let mut out = vec![0; self.file_len()];
         self.write(&mut out)?;

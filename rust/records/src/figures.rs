@@ -9,8 +9,9 @@ use std::path::{Path, PathBuf};
 const HEAD: &str = "\
 ## Figures
 
-Lines of code (`src`), of definitions and laws (`specs`) and of proofs (`proofs`), and the number of must-fail edits; a test counts them again. Seconds
-are those of the check in the last run of the gate before this was written; it checks several crates at a time.
+Lines of code (`src`), of definitions and laws (`specs`) and of proofs (`proofs`), and the number of
+must-fail edits; a test counts them again. Seconds are those of the check in the last run of the
+gate before this was written; it checks several crates at a time.
 
 | crate | code | specs | proofs | must-fail edits | seconds |
 |---|---|---|---|---|---|

@@ -2,10 +2,12 @@
 //! say whether it is current.
 
 mod figures;
+mod kit;
 mod source_002;
 mod speed;
 
 pub use figures::Seconds;
+pub use kit::{kit, written_kit};
 pub use speed::written_rows;
 
 use bench::Row;
@@ -19,16 +21,24 @@ pub fn root() -> PathBuf {
     PathBuf::from(env!("CARGO_MANIFEST_DIR")).join("../..")
 }
 
-/// The text, of what was measured; the rest is calculated and counted now.
-pub fn text(rows: &[Row], seconds: &Seconds) -> Result<String, String> {
-    let head = format!("Written by `{COMMAND}` in `rust/`, after `rt staticlib c_api`");
+/// The text, of what was measured with a kit; the rest is calculated and counted now.
+pub fn text(kit: &str, rows: &[Row], seconds: &Seconds) -> Result<String, String> {
     let sections = [
         source_002::section().map_err(|refusal| refusal.to_string())?,
         speed::section(rows),
         figures::section(seconds).map_err(|error| error.to_string())?,
     ];
     Ok(format!(
-        "# Records\n\n{head}; tests of the gate say whether it is current.\n\n{}",
+        "\
+# Records
+
+Written by `{COMMAND}` in `rust/`, after `rt staticlib c_api`; tests
+of the gate say whether it is current.
+
+{}
+
+{}",
+        kit::line(kit),
         sections.join("\n")
     ))
 }

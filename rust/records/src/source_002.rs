@@ -9,8 +9,9 @@ use reference::Big;
 const HEAD: &str = "\
 ## Source document 002
 
-The paper prints a chain-ladder column, CLM, by calendar year, and does not give its rounding. Its triangles (ten accident years, counts and paid) are
-`examples/source_002.input`. Beside the printed column stand the unrounded paid chain ladder, and the library's RBNS + IBNR at delays below m under
+The paper prints a chain-ladder column, CLM, by calendar year, and does not give its rounding. Its
+triangles (ten accident years, counts and paid) are `examples/source_002.input`. Beside the printed
+column stand the unrounded paid chain ladder, and the library's RBNS + IBNR at delays below m under
 method 0, basis 1; the differences are to the unrounded one.
 
 | year | printed | unrounded | forecast | printed off by | forecast off by |

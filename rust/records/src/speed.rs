@@ -12,11 +12,12 @@ pub fn section(rows: &[Row]) -> String {
         "\
 ## Speed
 
-Each proved call against document 01 in plain Rust with 128-bit numbers (`rust/bench`), on the file of a set of m years, in one run of a release build;
-the numbers after a call are its method and basis, and the back-test cuts one year. Instructions are those of one call under
-`valgrind --tool=callgrind`, with the C library copying by moves of 16 bytes whatever the machine has.
-Nanoseconds are the best of {ROUNDS} turns. A test counts the instructions of the proved calls again, which have to be within 3 % of these; the times
-are not checked.
+Each proved call against document 01 in plain Rust with 128-bit numbers (`rust/bench`), on the file
+of a set of m years, in one run of a release build; the numbers after a call are its method and
+basis, and the back-test cuts one year. Instructions are those of one call under
+`valgrind --tool=callgrind`, with the C library copying by moves of 16 bytes whatever the machine
+has. Nanoseconds are the best of {ROUNDS} turns. A test counts the instructions of the proved calls
+again, which have to be within 3 % of these; the times are not checked.
 
 {HEAD}{table}
 The largest ratios at m = 20 are {instructions} of instructions and {nanoseconds} of nanoseconds.

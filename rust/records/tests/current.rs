@@ -1,6 +1,6 @@
 //! docs/RECORDS.md is current.
 
-use records::{root, text, written_rows, Seconds, COMMAND};
+use records::{root, text, written_kit, written_rows, Seconds, COMMAND};
 use std::fs::read_to_string;
 use std::path::Path;
 
@@ -16,7 +16,11 @@ fn stale(what: String) -> ! {
 #[test]
 fn text_is_current() {
     let written = written();
-    let now = text(&written_rows(&written), &Seconds::written(&written)).unwrap();
+    let Some(kit) = written_kit(&written) else {
+        stale("it names no kit".to_string());
+    };
+    let seconds = Seconds::written(&written);
+    let now = text(kit, &written_rows(&written), &seconds).unwrap();
     if written != now {
         let different = written.lines().zip(now.lines()).find(|(was, is)| was != is);
         stale(format!("{different:?}"));

@@ -1,4 +1,4 @@
-//! Section "Back-test".
+//! 01, Back-test.
 
 use crate::big::Big;
 use crate::forecast::{entry, forecast_set, question_6};
@@ -8,9 +8,9 @@ use crate::records::{cells, place, read_set, Refusal, Set};
 #[derive(Clone, Debug, PartialEq, Eq)]
 pub struct BackTest {
     pub cells: u64,
-    pub by_cell: u64,
-    pub by_year: u64,
-    pub in_all: u64,
+    pub cellwise: u64,
+    pub yearwise: u64,
+    pub overall: u64,
 }
 
 /// Questions 1 to 6 of the full set, 8, then 9 to 14 of the cut set.
@@ -23,11 +23,10 @@ pub fn back_test(
 ) -> Result<BackTest, Refusal> {
     let set = read_set(file, m)?;
     question_6(&set, method, basis)?;
-    // 8. "Is c 1 to m - 2?"
+    // Question 8.
     if c < 1 || c > m - 2 {
         return Err(8);
     }
-    // "With cut c and s = m - c"
     let s = set.m - c as usize;
     let forecast = forecast_set(&cut_set(&set, s), method, basis)?;
     // The error of a cell: RBNS + IBNR less paid.
@@ -42,20 +41,20 @@ pub fn back_test(
         let of_year = compared.iter().filter(|(i, j)| i + j == year);
         of_year.map(|&(i, j)| error(i, j)).sum()
     };
-    let by_cell: Big = compared.iter().map(|&(i, j)| error(i, j).abs()).sum();
-    let by_year: Big = years.map(|year| year_error(year).abs()).sum();
-    let total: Big = compared.iter().map(|&(i, j)| error(i, j)).sum();
+    let cellwise: Big = compared.iter().map(|&(i, j)| error(i, j).abs()).sum();
+    let yearwise: Big = years.map(|year| year_error(year).abs()).sum();
+    let overall: Big = compared.iter().map(|&(i, j)| error(i, j)).sum();
     Ok(BackTest {
         cells: compared.len() as u64,
-        by_cell: unsigned_64(&by_cell),
-        by_year: unsigned_64(&by_year),
-        in_all: unsigned_64(&total.abs()),
+        cellwise: unsigned_64(&cellwise),
+        yearwise: unsigned_64(&yearwise),
+        overall: unsigned_64(&overall.abs()),
     })
 }
 
-/// "keep cells with i + j <= s and forecast them as a set of size s"
+/// The set of s years that was known c years earlier.
 pub fn cut_set(set: &Set, s: usize) -> Set {
-    let mut cut = Set::empty(s, set.incurred_there);
+    let mut cut = Set::empty(s, set.has_incurred);
     for kind in 0..set.kinds() {
         for (i, j) in cells(s) {
             cut.triangle_mut(kind)[place(i, j)] = set.triangle(kind)[place(i, j)];
@@ -64,7 +63,7 @@ pub fn cut_set(set: &Set, s: usize) -> Set {
     cut
 }
 
-/// "Compare RBNS + IBNR with paid where i <= s, j < s, s < i + j <= m."
+/// The cells of the full set that the cut set has forecast at delays below s.
 fn compared_cells(m: usize, s: usize) -> Vec<(usize, usize)> {
     cells(m)
         .filter(|&(i, j)| i <= s && j < s && s < i + j)

@@ -1,4 +1,4 @@
-//! Section "Calendar years and the program".
+//! 01, Calendar years and the program.
 
 use crate::big::Big;
 use crate::forecast::{entry, entry_count, forecast};
@@ -19,8 +19,8 @@ impl Tally {
         }
     }
 
-    /// "Adding one cell to the calendar-year tally gives the next tally. A calendar year outside
-    /// 1 to 38, or a sum past signed 64 bits, gives the same tally back."
+    /// The tally with a cell added; unchanged for a t that is not 1 to 38, or where one of the two
+    /// sums would not fit an i64.
     pub fn add(mut self, t: i64, rbns: i64, ibnr: i64) -> Tally {
         if !(1..=38).contains(&t) {
             return self;
@@ -35,7 +35,7 @@ impl Tally {
         self
     }
 
-    /// The tally of a forecast's entries: "Calendar year t = i + j - m, 1 to 2m - 2."
+    /// The tally of a forecast's entries: cell (i,j) is paid in calendar year i + j - m.
     pub fn of_entries(entries: &[i64], m: usize) -> Tally {
         let mut tally = Tally::zero();
         for i in 1..=m {
@@ -74,8 +74,7 @@ fn closing_lines(input: &[u8]) -> Result<String, Refusal> {
     Ok(lines)
 }
 
-/// "t, RBNS, IBNR, their sum", "One space stands between fields, a minus sign before a negative
-/// amount, a newline after each line."
+/// A line of the page: a year or T, both amounts and their sum.
 fn closing_line(name: &str, rbns: &Big, ibnr: &Big) -> String {
     format!("{name} {rbns} {ibnr} {}\n", rbns + ibnr)
 }
@@ -86,8 +85,8 @@ fn first_line(input: &[u8]) -> Option<(&[u8], &[u8])> {
     Some((&input[..newline], &input[newline + 1..]))
 }
 
-/// "The first line is three runs of one to four decimal digits, one space between each, ended by
-/// a newline; any other first line is 1."
+/// The three numbers of a first line without its newline: each of 1 to 4 digits, with a space
+/// between two of them and nothing else.
 fn fields(line: &[u8]) -> Option<[u64; 3]> {
     let runs: Option<Vec<u64>> = line.split(|&byte| byte == b' ').map(digits).collect();
     runs?.try_into().ok()

@@ -1,10 +1,10 @@
-//! Section "Claim-cost card".
+//! 01, Claim-cost card.
 
 use crate::big::Big;
 use crate::records::{read_set, Refusal};
 use crate::shares::{estimates, signed_64};
 
-/// "A year's inflation is base year (row 1), no payments yet (U(i) = 0), or a ratio"
+/// How a year's mean cost stands to that of row 1: it is that row, has U(i) = 0, or has a ratio.
 #[derive(Clone, Copy, Debug, PartialEq)]
 pub enum Inflation {
     BaseYear,
@@ -20,14 +20,14 @@ pub struct ClaimCosts {
     pub inflations: [Inflation; 20],
 }
 
-/// "The card skips 6, 7, 8 and 12 to 14": questions 1 to 5 and 9 to 11.
+/// Questions 1 to 5 and 9 to 11, and the claim costs.
 pub fn claim_costs(file: &[u8], m: u64) -> Result<ClaimCosts, Refusal> {
     let set = read_set(file, m)?;
     let estimates = estimates(&set)?;
-    // "Mean cost is U(i) / N(i); mu is row 1's."
+    // U(i) / N(i); row 1 has mu.
     let mean_cost = |i: usize| quotient(&estimates.u[i - 1], &estimates.n[i - 1]);
     let mu = mean_cost(1);
-    // "Factor f(j) = B(j) / A(j) of paid, at place j - 1."
+    // f(j) = B(j) / A(j) of paid stands at place j - 1.
     let mut factors = [0.0; 20];
     for j in 1..set.m {
         factors[j - 1] = quotient(&estimates.paid.b(j), &estimates.paid.a(j));
@@ -36,7 +36,7 @@ pub fn claim_costs(file: &[u8], m: u64) -> Result<ClaimCosts, Refusal> {
     inflations[0] = Inflation::BaseYear;
     for i in 2..=set.m {
         if !estimates.u[i - 1].is_zero() {
-            // "its mean cost divided by mu, one more division"
+            // A division of two quotients, rounded once more.
             inflations[i - 1] = Inflation::Ratio(mean_cost(i) / mu);
         }
     }
@@ -47,7 +47,7 @@ pub fn claim_costs(file: &[u8], m: u64) -> Result<ClaimCosts, Refusal> {
     })
 }
 
-/// "as binary64, each by one division of two whole numbers held exactly"
+/// The nearest binary64 to a / b, which is one division, as both are binary64 numbers themselves.
 fn quotient(a: &Big, b: &Big) -> f64 {
     held_exactly(a) / held_exactly(b)
 }

@@ -1,11 +1,11 @@
-//! Section "Delays": the triangular system.
+//! 01, Delays: the triangular system.
 
 use crate::big::Big;
 use crate::records::{read_set, Refusal};
 use crate::rounding::{r, scale};
 use crate::shares::{estimates, list, Estimates};
 
-/// "p(l) = r((S × q(l) - sum of b(k) × p(l-k) for k = 1 to l) / b(0)), l from 0"
+/// p(l) = r((S × q(l) - b(1) × p(l-1) - .. - b(l) × p(0)) / b(0)), one after the other.
 pub fn solve(b: &[Big], q: &[Big]) -> Vec<Big> {
     let mut p: Vec<Big> = Vec::new();
     for l in 0..q.len() {
@@ -18,7 +18,7 @@ pub fn solve(b: &[Big], q: &[Big]) -> Vec<Big> {
 /// The delays of an estimated set, and question 12.
 pub fn solved(estimates: &Estimates) -> Result<Vec<Big>, Refusal> {
     let p = solve(&estimates.b, &estimates.q);
-    // 12. "Is every delay within -8 × 10^9 to 8 × 10^9?"
+    // Question 12.
     let most = Big::from(8_000_000_000i64);
     if p.iter().any(|delay| delay.abs() > most) {
         return Err(12);
@@ -26,7 +26,7 @@ pub fn solved(estimates: &Estimates) -> Result<Vec<Big>, Refusal> {
     Ok(p)
 }
 
-/// "the delays from one that takes 12 too"
+/// Questions 1 to 5 and 9 to 12, and the delays.
 pub fn delays(file: &[u8], m: u64) -> Result<[i64; 20], Refusal> {
     let set = read_set(file, m)?;
     let p = solved(&estimates(&set)?)?;

@@ -1,5 +1,4 @@
-//! Section "Examples from a small shelf": each example once, for this calculation and for the
-//! library.
+//! 01, Examples from a small shelf: each example once, for this calculation and for the library.
 
 use crate::back_test::{back_test, BackTest};
 use crate::calendar::closing;
@@ -8,9 +7,9 @@ use crate::forecast::{entry, entry_count, forecast, Forecast};
 use crate::generate::file;
 use crate::records::{place, Refusal, Set};
 use crate::shares::{shares, Shares};
-use Number::{ByCell, ByYear, Cells, Ibnr, InAll, Rbns, Together, B, N, P, Q, U};
+use Number::{Cells, Cellwise, Ibnr, Overall, Rbns, Together, Yearwise, B, N, P, Q, U};
 
-/// Triangles by rows, as the document prints them: "80, 20 / 90".
+/// The set of triangles by rows.
 pub fn set(counts: &[&[i64]], paid: &[&[i64]], incurred: Option<&[&[i64]]>) -> Set {
     let mut set = Set::empty(counts.len(), incurred.is_some());
     let triangles = [counts, paid, incurred.unwrap_or(&[])];
@@ -69,9 +68,9 @@ pub enum Number {
     Ibnr(usize, usize),
     Together(usize, usize),
     Cells,
-    ByCell,
-    ByYear,
-    InAll,
+    Cellwise,
+    Yearwise,
+    Overall,
 }
 
 /// What the document prints of an answer.
@@ -197,7 +196,7 @@ pub const EXAMPLES: &[Example] = &[
         printed: Printed::Numbers(&[(Rbns(1, 2), 63), (Ibnr(1, 2), 0)]),
     },
     Example {
-        says: "`closing` with \"2 0 1\" and K without incurred prints these lines",
+        says: "`closing` on K without incurred, method 0, basis 1",
         rows: K_WITHOUT_INCURRED,
         call: Call::Closing { line: "2 0 1\n" },
         printed: Printed::Lines("1 338 165 503\n2 0 69 69\nT 338 234 572\n"),
@@ -251,7 +250,7 @@ pub const EXAMPLES: &[Example] = &[
         printed: Printed::Refused(11),
     },
     Example {
-        says: "With 1, 999, question 11 is passed",
+        says: "Row 1 counts 1, 999: accepted by the shares",
         rows: NOT_SO_THIN,
         call: Call::Shares,
         printed: Printed::Passed,
@@ -270,7 +269,7 @@ pub const EXAMPLES: &[Example] = &[
             basis: 1,
             cut: 1,
         },
-        printed: Printed::Numbers(&[(Cells, 1), (ByCell, 10), (ByYear, 10), (InAll, 10)]),
+        printed: Printed::Numbers(&[(Cells, 1), (Cellwise, 10), (Yearwise, 10), (Overall, 10)]),
     },
 ];
 
@@ -444,9 +443,9 @@ impl Example {
                 of.entries[entry(m, i, j)] + of.entries[entry(m, i, j) + 1]
             }
             (Answer::BackTest(of), Cells) => of.cells as i64,
-            (Answer::BackTest(of), ByCell) => of.by_cell as i64,
-            (Answer::BackTest(of), ByYear) => of.by_year as i64,
-            (Answer::BackTest(of), InAll) => of.in_all as i64,
+            (Answer::BackTest(of), Cellwise) => of.cellwise as i64,
+            (Answer::BackTest(of), Yearwise) => of.yearwise as i64,
+            (Answer::BackTest(of), Overall) => of.overall as i64,
             _ => return None,
         };
         Some(found)

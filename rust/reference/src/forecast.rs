@@ -1,4 +1,4 @@
-//! Section "Cell forecasts".
+//! 01, Cell forecasts.
 
 use crate::big::Big;
 use crate::delays::solved;
@@ -7,19 +7,19 @@ use crate::rounding::{r, scale};
 use crate::row_bases::row_bases;
 use crate::shares::{estimates, list, signed_64, Estimates};
 
-/// The 2m(2m-1) output entries, and the left overs.
+/// The 2m(2m-1) output entries, and the leftovers.
 #[derive(Clone, Debug, PartialEq, Eq)]
 pub struct Forecast {
     pub entries: Vec<i64>,
     pub leftovers: [i64; 20],
 }
 
-/// "Output entry 2 × ((i-1) × (2m-1) + j) + 0 is RBNS, + 1 is IBNR"; the RBNS one.
+/// The place of RBNS of cell (i,j); IBNR stands at the next one.
 pub fn entry(m: usize, i: usize, j: usize) -> usize {
     2 * ((i - 1) * (2 * m - 1) + j)
 }
 
-/// "2m(2m-1) entries"
+/// How many entries a forecast has.
 pub fn entry_count(m: usize) -> usize {
     2 * m * (2 * m - 1)
 }
@@ -34,16 +34,16 @@ pub fn forecast(
 ) -> Result<Forecast, Refusal> {
     let set = read_set(file, m)?;
     question_6(&set, method, basis)?;
-    // 7. "Is the output long enough: 2m(2m-1) entries"
+    // Question 7.
     if out_len < entry_count(set.m) {
         return Err(7);
     }
     forecast_set(&set, method, basis)
 }
 
-/// "Is the method 0, 1 or 2, the basis 0 or 1, and is incurred there if the method is 1 or 2?"
+/// Question 6.
 pub fn question_6(set: &Set, method: u64, basis: u64) -> Result<(), Refusal> {
-    if method <= 2 && basis <= 1 && (method == 0 || set.incurred_there) {
+    if method <= 2 && basis <= 1 && (method == 0 || set.has_incurred) {
         Ok(())
     } else {
         Err(6)
@@ -73,8 +73,8 @@ pub fn forecast_set(set: &Set, method: u64, basis: u64) -> Result<Forecast, Refu
     })
 }
 
-/// s(k) of year i for k = 0 to m - i. "Basis 1 (estimated counts): s(k) = b(k). Basis 0
-/// (actual): s(k) = r(count(i,k) × the count share g(m-i) / C(i,m-i) of counts)."
+/// s(k) of year i for k = 0 to m - i: the estimated b(k) (basis 1), or the part that the year's own
+/// count has, r(count(i,k) × g(m-i) / C(i,m-i)) of counts (basis 0).
 pub fn reported_shares(estimates: &Estimates, i: usize, basis: u64) -> Vec<Big> {
     let counts = &estimates.counts;
     let latest = counts.m() - i;
@@ -88,8 +88,8 @@ pub fn reported_shares(estimates: &Estimates, i: usize, basis: u64) -> Vec<Big> 
     (0..=latest).map(share).collect()
 }
 
-/// "take all k, l from 0 to m - 1 with k + l = j": r(V(i) × sum of share(k) × p(l) / S^2) over
-/// the reporting delays k chosen.
+/// r(V(i) × sum of share(k) × p(l) / S^2) over the reporting delays k that are chosen, with a
+/// payment delay l = j - k from 0 to m - 1.
 fn cell_forecast(
     v: &Big,
     share: &[Big],

@@ -1,4 +1,4 @@
-//! Exact fractions: "A fraction here is a pair of whole numbers, the lower one above zero".
+//! 01, Shares: exact fractions, whose lower number is above zero.
 
 use crate::big::Big;
 
@@ -41,13 +41,13 @@ impl Fraction {
         Fraction::new(&self.upper * &other.lower, &self.lower * &other.upper)
     }
 
-    /// "A distance is a difference without its sign."
+    /// How far apart two fractions are.
     pub fn distance(&self, other: &Fraction) -> Fraction {
         let difference = self.minus(other);
         Fraction::new(difference.upper.abs(), difference.lower)
     }
 
-    /// self <= other, "multiplied out in whole numbers, with nothing divided".
+    /// self <= other, without a division.
     pub fn at_most(&self, other: &Fraction) -> bool {
         &self.upper * &other.lower <= &other.upper * &self.lower
     }

@@ -22,7 +22,7 @@ impl ReserveDistance {
     }
 }
 
-/// "G(m-1) = S and G(j-1) = G(j) × A(j) / B(j) of paid, never rounded"
+/// G of paid (01, Shares): as g, with every quotient exact.
 pub fn exact_shares(paid: &Triangle) -> Vec<Fraction> {
     let m = paid.m();
     let mut shares = vec![Fraction::whole(scale()); m];
@@ -32,7 +32,7 @@ pub fn exact_shares(paid: &Triangle) -> Vec<Fraction> {
     shares
 }
 
-/// "the unrounded paid ultimate H of row i is C(i,m-i) × S / G(m-i)"
+/// H of row i: C(i,m-i) × S / G(m-i) of paid.
 pub fn exact_ultimate(paid: &Triangle, exact_shares: &[Fraction], i: usize) -> Fraction {
     let upper = Fraction::whole(paid.latest(i) * scale());
     upper.over(&exact_shares[paid.m() - i])
@@ -64,8 +64,7 @@ pub fn demand3(file: &[u8], m: u64) -> Result<Vec<ReserveDistance>, Refusal> {
     Ok((1..=m).map(year).collect())
 }
 
-/// "Demand 3's sum for year i adds the RBNS and IBNR entries of the output at delays 0 to m - 1,
-/// as written"
+/// The sum of a year's entries, RBNS and IBNR, below delay m.
 fn written_sum(entries: &[i64], m: usize, i: usize) -> Big {
     (0..m)
         .map(|j| entry(m, i, j))

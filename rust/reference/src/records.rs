@@ -1,4 +1,4 @@
-//! Section "Triangle records": sets, their reader and their writer.
+//! 01, Triangle records: sets, their reader and their writer.
 
 use std::ops::RangeInclusive;
 
@@ -12,17 +12,17 @@ pub type Values = [i64; 400];
 #[derive(Clone, Debug, PartialEq, Eq)]
 pub struct Set {
     pub m: usize,
-    pub incurred_there: bool,
+    pub has_incurred: bool,
     pub counts: Values,
     pub paid: Values,
     pub incurred: Values,
 }
 
 impl Set {
-    pub fn empty(m: usize, incurred_there: bool) -> Set {
+    pub fn empty(m: usize, has_incurred: bool) -> Set {
         Set {
             m,
-            incurred_there,
+            has_incurred,
             counts: [0; 400],
             paid: [0; 400],
             incurred: [0; 400],
@@ -31,10 +31,10 @@ impl Set {
 
     /// Kinds 0 and 1, or 0 to 2.
     pub fn kinds(&self) -> u8 {
-        kinds(self.incurred_there)
+        kinds(self.has_incurred)
     }
 
-    /// The triangle of a kind: "0 count, 1 paid, 2 incurred".
+    /// The triangle of a kind.
     pub fn triangle(&self, kind: u8) -> &Values {
         match kind {
             0 => &self.counts,
@@ -52,12 +52,12 @@ impl Set {
     }
 }
 
-/// "cell (i,j) at 20 × (i-1) + j"
+/// Where cell (i,j) stands among the values.
 pub fn place(i: usize, j: usize) -> usize {
     20 * (i - 1) + j
 }
 
-/// "accident year i (1 to m) and delay j (0 to m - 1) with i + j <= m"
+/// Whether (i,j) is a cell of a set of m years.
 pub fn is_cell(m: usize, i: usize, j: usize) -> bool {
     1 <= i && i <= m && j < m && i + j <= m
 }
@@ -67,7 +67,7 @@ pub fn cells(m: usize) -> impl Iterator<Item = (usize, usize)> {
     (1..=m).flat_map(move |i| (0..=m - i).map(move |j| (i, j)))
 }
 
-/// "counts 0 to 10,000,000; paid 0 to 10^10; incurred -10^10 to 10^10"
+/// The values that a kind may have.
 pub fn range(kind: u8) -> RangeInclusive<i64> {
     match kind {
         0 => 0..=10_000_000,
@@ -76,25 +76,25 @@ pub fn range(kind: u8) -> RangeInclusive<i64> {
     }
 }
 
-fn kinds(incurred_there: bool) -> u8 {
-    if incurred_there {
+fn kinds(has_incurred: bool) -> u8 {
+    if has_incurred {
         3
     } else {
         2
     }
 }
 
-/// The length in bytes of a set's file: "16 × m(m+1), or half as much again".
-pub fn file_length(m: usize, incurred_there: bool) -> usize {
+/// The length in bytes of a set's file: 16 for each cell of two or three triangles.
+pub fn file_length(m: usize, has_incurred: bool) -> usize {
     let without = 16 * m * (m + 1);
-    if incurred_there {
+    if has_incurred {
         without + without / 2
     } else {
         without
     }
 }
 
-/// "Is m 2 to 20?"
+/// Question 1.
 fn question_1(m: u64) -> Result<usize, Refusal> {
     if (2..=20).contains(&m) {
         Ok(m as usize)
@@ -113,8 +113,7 @@ struct Record {
 }
 
 impl Record {
-    /// "byte 0 the kind, byte 1 i, byte 2 j, bytes 3 to 7 zero, bytes 8 to 15 the value, signed
-    /// two's complement, least byte first"
+    /// Kind, i and j in a byte each, five bytes of padding, and the value in eight.
     fn read(bytes: &[u8]) -> Record {
         Record {
             kind: bytes[0],
@@ -135,53 +134,52 @@ impl Record {
     }
 }
 
-/// The set in a file; "The reader by itself takes 1 to 5."
+/// Questions 1 to 5, and the set in a file.
 pub fn read_set(file: &[u8], m: u64) -> Result<Set, Refusal> {
     let m = question_1(m)?;
-    // 2. "Is the length 16 × m(m+1), or half as much again?"
-    let incurred_there = file.len() == file_length(m, true);
-    if !incurred_there && file.len() != file_length(m, false) {
+    // Question 2.
+    let has_incurred = file.len() == file_length(m, true);
+    if !has_incurred && file.len() != file_length(m, false) {
         return Err(2);
     }
     let records: Vec<Record> = file.chunks_exact(16).map(Record::read).collect();
-    // 3. "Has each record a kind that length allows, a cell inside the triangle, and zero in
-    // bytes 3 to 7?"
+    // Question 3.
     let well_formed = |record: &Record| {
-        record.kind < kinds(incurred_there)
+        record.kind < kinds(has_incurred)
             && is_cell(m, record.i, record.j)
             && record.padding == [0; 5]
     };
     if !records.iter().all(well_formed) {
         return Err(3);
     }
-    // 4. "Is each cell there once?"
+    // Question 4.
     let mut times = [[0; 400]; 3];
     for record in &records {
         times[usize::from(record.kind)][place(record.i, record.j)] += 1;
     }
     let once = |kind: u8| cells(m).all(|(i, j)| times[usize::from(kind)][place(i, j)] == 1);
-    if !(0..kinds(incurred_there)).all(once) {
+    if !(0..kinds(has_incurred)).all(once) {
         return Err(4);
     }
-    // 5. "Is each value in range?"
+    // Question 5.
     if !records
         .iter()
         .all(|record| range(record.kind).contains(&record.value))
     {
         return Err(5);
     }
-    let mut set = Set::empty(m, incurred_there);
+    let mut set = Set::empty(m, has_incurred);
     for record in &records {
         set.triangle_mut(record.kind)[place(record.i, record.j)] = record.value;
     }
     Ok(set)
 }
 
-/// Writes the set by kind, accident year, delay; bytes past it, and all on a refusal, stay.
-/// "The writer takes 1, 5 and 7, and question 5 looks only at the set's cells."
+/// Questions 1, 5 and 7, and the set written by kind, accident year and delay; bytes past it, and
+/// all on a refusal, stay. Question 5 is put to the cells alone.
 pub fn write_set(
     m: u64,
-    incurred_there: bool,
+    has_incurred: bool,
     counts: &Values,
     paid: &Values,
     incurred: &Values,
@@ -190,7 +188,7 @@ pub fn write_set(
     let m = question_1(m)?;
     let triangles = [counts, paid, incurred];
     let mut bytes = Vec::new();
-    for kind in 0..kinds(incurred_there) {
+    for kind in 0..kinds(has_incurred) {
         for (i, j) in cells(m) {
             let value = triangles[usize::from(kind)][place(i, j)];
             if !range(kind).contains(&value) {
@@ -199,7 +197,7 @@ pub fn write_set(
             bytes.extend(Record::write(kind, i, j, value));
         }
     }
-    // 7. "for the writer, every byte of the set"
+    // Question 7.
     if out.len() < bytes.len() {
         return Err(7);
     }

@@ -1,14 +1,14 @@
-//! Section "Rounding".
+//! 01, Rounding.
 
 use crate::big::Big;
 
-/// "S = 10^9."
+/// S, by which shares are scaled.
 pub fn scale() -> Big {
     Big::from(1_000_000_000i64)
 }
 
-/// "r(a/b) is the nearest whole number; halves go away from zero, so -2.5 becomes -3."
-/// b is above zero wherever the document divides.
+/// r(a/b): to the nearest whole number, and from halfway to the larger magnitude. b is above zero
+/// wherever the document divides.
 pub fn r(a: &Big, b: &Big) -> Big {
     assert!(b.is_positive(), "rounded quotient by {b}");
     let (whole, rest) = a.abs().div_rem(b);

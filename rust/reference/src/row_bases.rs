@@ -1,11 +1,11 @@
-//! Section "Row bases".
+//! 01, Row bases.
 
 use crate::big::Big;
 use crate::records::{Refusal, Set};
 use crate::rounding::r;
 use crate::shares::{incurred_ultimates, Estimates};
 
-/// V(i) and the left overs, year i at place i - 1.
+/// V(i) and the leftovers, year i at place i - 1.
 pub struct RowBases {
     pub v: Vec<Big>,
     pub leftovers: Vec<Big>,
@@ -18,7 +18,7 @@ pub fn row_bases(set: &Set, estimates: &Estimates, method: u64) -> Result<RowBas
         1 => bdcl(&estimates.u, &incurred_ultimates(set)?),
         _ => idcl(estimates, &incurred_ultimates(set)?),
     };
-    // 14. "Is every V(i) within -2 × 10^14 to 2 × 10^14?"
+    // Question 14.
     let most = Big::from(200_000_000_000_000i64);
     if bases.v.iter().any(|v| v.abs() > most) {
         return Err(14);
@@ -26,7 +26,7 @@ pub fn row_bases(set: &Set, estimates: &Estimates, method: u64) -> Result<RowBas
     Ok(bases)
 }
 
-/// "Method 0, DCL: V(i) = U(i)."
+/// DCL: V(i) = U(i).
 fn dcl(u: &[Big]) -> RowBases {
     RowBases {
         v: u.to_vec(),
@@ -34,7 +34,7 @@ fn dcl(u: &[Big]) -> RowBases {
     }
 }
 
-/// "Method 1, BDCL: V(i) = r(U(1) × W(i) / W(1))."
+/// BDCL: V(i) = r(U(1) × W(i) / W(1)).
 fn bdcl(u: &[Big], w: &[Big]) -> RowBases {
     RowBases {
         v: w.iter()
@@ -44,9 +44,8 @@ fn bdcl(u: &[Big], w: &[Big]) -> RowBases {
     }
 }
 
-/// "Method 2, IDCL: with R = U(i) - C(i,m-i) of paid and R* = W(i) - C(i,m-i) of paid,
-/// V(i) = r(U(i) × R* / R). Where R = 0, V(i) = U(i), and R* is returned as that year's left
-/// over."
+/// IDCL: V(i) = r(U(i) × R* / R), with the reserves R of U and R* of W; a year with R = 0 keeps
+/// V(i) = U(i), and its R* is the leftover.
 fn idcl(estimates: &Estimates, w: &[Big]) -> RowBases {
     let mut bases = dcl(&estimates.u);
     for (at, u) in estimates.u.iter().enumerate() {

@@ -1,4 +1,4 @@
-//! Section "Shares": the chain ladder of each triangle.
+//! 01, Shares: the chain ladder of each triangle.
 
 use crate::big::Big;
 use crate::records::{cells, place, read_set, Refusal, Set, Values};
@@ -30,7 +30,7 @@ impl Triangle {
         &self.values[place(i, j)]
     }
 
-    /// "C(i,j) is the sum of row i over delays 0 to j."
+    /// C(i,j), row i summed up to delay j.
     pub fn c(&self, i: usize, j: usize) -> Big {
         (0..=j).map(|delay| self.cell(i, delay).clone()).sum()
     }
@@ -40,17 +40,18 @@ impl Triangle {
         self.c(i, self.m - i)
     }
 
-    /// "A(j) sums C(i,j-1) over rows 1 to m - j"
+    /// A(j), the C(i,j-1) of the rows that have a delay j.
     pub fn a(&self, j: usize) -> Big {
         (1..=self.m - j).map(|i| self.c(i, j - 1)).sum()
     }
 
-    /// "B(j) sums C(i,j) over rows 1 to m - j"
+    /// B(j), the C(i,j) of the same rows.
     pub fn b(&self, j: usize) -> Big {
         (1..=self.m - j).map(|i| self.c(i, j)).sum()
     }
 
-    /// "g(m-1) = S; g(j-1) = r(g(j) × A(j) / B(j))"; every B(j) is above zero.
+    /// g from the last delay down: g(m-1) = S, g(j-1) = r(g(j) × A(j) / B(j)). Every B(j) is above
+    /// zero.
     pub fn g(&self) -> Vec<Big> {
         let mut g = vec![Big::zero(); self.m];
         g[self.m - 1] = scale();
@@ -60,7 +61,7 @@ impl Triangle {
         g
     }
 
-    /// "Row i's ultimate is r(C(i,m-i) × S / g(m-i))"; place i - 1.
+    /// The ultimate r(C(i,m-i) × S / g(m-i)) of row i at place i - 1.
     pub fn ultimates(&self, g: &[Big]) -> Vec<Big> {
         (1..=self.m)
             .map(|i| r(&(self.latest(i) * scale()), &g[self.m - i]))
@@ -68,7 +69,7 @@ impl Triangle {
     }
 }
 
-/// "b(0) = g(0); b(j) = g(j) - g(j-1)"
+/// The steps of g, from g(0) on.
 pub fn shares_of(g: &[Big]) -> Vec<Big> {
     let mut shares = vec![g[0].clone()];
     for j in 1..g.len() {
@@ -77,7 +78,7 @@ pub fn shares_of(g: &[Big]) -> Vec<Big> {
     shares
 }
 
-/// "Counts give shares b and ultimates N; paid gives q (in place of b), g and U"
+/// What the chain ladder makes of counts (b, N and their g) and of paid (q, g, U).
 pub struct Estimates {
     pub counts: Triangle,
     pub paid: Triangle,
@@ -99,17 +100,17 @@ pub fn estimates(set: &Set) -> Result<Estimates, Refusal> {
     let m = set.m;
     let counts = Triangle::new(m, &set.counts);
     let paid = Triangle::new(m, &set.paid);
-    // 9. "Has each row kept a count above zero in all?"
+    // Question 9.
     if !(1..=m).all(|i| counts.latest(i).is_positive()) {
         return Err(9);
     }
-    // 10. "Is every paid B(j) above zero?"
+    // Question 10.
     if !(1..m).all(|j| paid.b(j).is_positive()) {
         return Err(10);
     }
     let count_g = counts.g();
     let g = paid.g();
-    // 11. "Are g(0) of counts and of paid at least 10^6?"
+    // Question 11.
     if count_g[0] < least_g() || g[0] < least_g() {
         return Err(11);
     }
@@ -125,12 +126,10 @@ pub fn estimates(set: &Set) -> Result<Estimates, Refusal> {
     })
 }
 
-/// Question 13, and "incurred gives W".
+/// Question 13, and the incurred ultimates W.
 pub fn incurred_ultimates(set: &Set) -> Result<Vec<Big>, Refusal> {
     let m = set.m;
     let incurred = Triangle::new(m, &set.incurred);
-    // 13. "Are all incurred A(j), B(j) above zero, latest row sums not negative, and every
-    // incurred g(j) from 10^6 to 4 × 10^9?"
     if !(1..m).all(|j| incurred.a(j).is_positive() && incurred.b(j).is_positive()) {
         return Err(13);
     }
@@ -155,7 +154,7 @@ pub struct Shares {
     pub u: [i64; 20],
 }
 
-/// "Shares and ultimates (b, N, q, g, U) come from a call that takes 1 to 5 and 9 to 11"
+/// Questions 1 to 5 and 9 to 11, and the shares and ultimates.
 pub fn shares(file: &[u8], m: u64) -> Result<Shares, Refusal> {
     let set = read_set(file, m)?;
     let estimates = estimates(&set)?;
@@ -168,7 +167,7 @@ pub fn shares(file: &[u8], m: u64) -> Result<Shares, Refusal> {
     })
 }
 
-/// "In a shorter list handed back by value, places past the last entry hold 0"
+/// A list of 20, with 0 behind the values.
 pub fn list(values: &[Big]) -> [i64; 20] {
     let mut list = [0; 20];
     for (at, value) in values.iter().enumerate() {

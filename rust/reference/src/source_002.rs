@@ -9,7 +9,7 @@ use crate::records::{cells, place, Refusal, Set};
 use crate::rounding::scale;
 use crate::shares::Triangle;
 
-/// "Aggregated Count Incurred", accident years 2005 to 2014; padding past i + j = 10.
+/// The counts of accident years 2005 to 2014; padding past i + j = 10.
 pub const COUNTS: [[i64; 10]; 10] = [
     [298, 30, 2, 0, 0, 0, 0, 0, 0, 0],
     [447, 14, 1, 0, 1, 0, 0, 0, 0, 0],
@@ -23,7 +23,7 @@ pub const COUNTS: [[i64; 10]; 10] = [
     [395, 0, 0, 0, 0, 0, 0, 0, 0, 0],
 ];
 
-/// "Aggregated Paid".
+/// The payments.
 pub const PAID: [[i64; 10]; 10] = [
     [
         13_247_635, 6_624_159, 2_642_654, 911_253, 0, 4_609_220, 0, 500_000, 1_092_696, 0,
@@ -51,7 +51,7 @@ pub const PAID: [[i64; 10]; 10] = [
     [21_903_227, 0, 0, 0, 0, 0, 0, 0, 0, 0],
 ];
 
-/// The column "CLM" in tenths of a unit, calendar years 1 to 9; the later ones are 0.0.
+/// The column CLM in tenths of a unit, calendar years 1 to 9; the later ones are 0.0.
 pub const PRINTED: [i64; 9] = [
     343_095_554,
     176_043_876,

@@ -25,7 +25,7 @@ fn printed_examples() {
     }
 }
 
-/// All entries of K, and no left overs: year 1 has R = 0 and keeps its tail under IDCL too.
+/// All entries of K, and no leftovers: year 1 has R = 0 and keeps its tail under IDCL too.
 #[test]
 fn entries_of_k() {
     let forecast = |method| forecast(&file(&set_k()), 2, method, 1, 12).unwrap();
@@ -57,7 +57,7 @@ fn actual_counts_of_k() {
     }
 }
 
-/// "Row 1 counts 1, 1000: g(0) = 999,001"; with 1, 999 it is 10^6.
+/// g(0) of row 1 with counts 1, 1000 is 999,001; with 1, 999 it is 10^6.
 #[test]
 fn least_first_share() {
     let first = |late: i64| {

@@ -131,8 +131,8 @@ fn known_cells_are_zero() {
     }
 }
 
-/// "The number is the sum of s - t for t = 1 to the smaller of c and s - 1", and a sum's error
-/// never exceeds the sum of its parts' errors.
+/// The number of cells is s - 1, s - 2, .. summed over the cut years that have one, and a sum's
+/// error never exceeds the sum of its parts' errors.
 #[test]
 fn back_tests_are_consistent() {
     let mut accepted = 0;
@@ -144,7 +144,7 @@ fn back_tests_are_consistent() {
         let s = case.m - case.cut;
         let cells: u64 = (1..=case.cut.min(s - 1)).map(|t| s - t).sum();
         assert_eq!(found.cells, cells);
-        assert!(found.in_all <= found.by_year && found.by_year <= found.by_cell);
+        assert!(found.overall <= found.yearwise && found.yearwise <= found.cellwise);
         accepted += 1;
     }
     assert!(accepted > 500);
@@ -175,7 +175,7 @@ fn back_test_of_a_forecast_finds_no_error() {
             continue;
         }
         let found = back_test(&file(&longer), m as u64, 1, 0, 1).unwrap();
-        let errors = [found.by_cell, found.by_year, found.in_all];
+        let errors = [found.cellwise, found.yearwise, found.overall];
         assert_eq!((found.cells, errors), (s as u64 - 1, [0; 3]));
         tested += 1;
     }

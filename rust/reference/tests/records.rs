@@ -44,7 +44,7 @@ fn length_decides_whether_incurred_is_there() {
     let bytes = file(&set_k_without_incurred());
     assert_eq!(bytes.len(), 6 * 16);
     let read = read_set(&bytes, 2).unwrap();
-    assert!(!read.incurred_there);
+    assert!(!read.has_incurred);
     assert_eq!(read.incurred, [0; 400]);
     assert_eq!((read.counts, read.paid), (set_k().counts, set_k().paid));
 }
@@ -94,7 +94,7 @@ fn generated_writes() {
         let mut out = before.clone();
         let answer = write_set(
             case.m,
-            case.incurred_there,
+            case.has_incurred,
             &case.counts,
             &case.paid,
             &case.incurred,
@@ -107,10 +107,10 @@ fn generated_writes() {
             }
             Ok(()) => {
                 outcomes[0] += 1;
-                let length = file_length(case.m as usize, case.incurred_there);
+                let length = file_length(case.m as usize, case.has_incurred);
                 assert_eq!(out[length..], before[length..]);
                 let set = read_set(&out[..length], case.m).unwrap();
-                assert_eq!(set.incurred_there, case.incurred_there);
+                assert_eq!(set.has_incurred, case.has_incurred);
                 let given = [&case.counts, &case.paid, &case.incurred];
                 for kind in 0..set.kinds() {
                     for (i, j) in cells(set.m) {
@@ -133,9 +133,16 @@ fn generated_writes() {
 fn writer_takes_its_questions_in_order() {
     let mut bad = set_k();
     bad.counts[0] = -1;
-    let write = |m: u64, set: &Set, there: bool, length: usize| {
+    let write = |m: u64, set: &Set, has_incurred: bool, length: usize| {
         let mut out = vec![7; length];
-        let answer = write_set(m, there, &set.counts, &set.paid, &set.incurred, &mut out);
+        let answer = write_set(
+            m,
+            has_incurred,
+            &set.counts,
+            &set.paid,
+            &set.incurred,
+            &mut out,
+        );
         assert!(answer.is_ok() || out.iter().all(|&byte| byte == 7));
         answer
     };

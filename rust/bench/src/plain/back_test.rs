@@ -22,7 +22,7 @@ fn cut_to(set: &Set, s: usize) -> Set {
     }
     Set {
         m: s,
-        three: set.three,
+        has_incurred: set.has_incurred,
         triangles,
     }
 }

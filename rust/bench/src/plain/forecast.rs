@@ -7,7 +7,7 @@ use super::{nearest, read_set, Set, SCALE};
 
 /// Question 6.
 pub fn question_6(set: &Set, method: u64, basis: u64) -> Result<(), u64> {
-    if method > 2 || basis > 1 || (method > 0 && !set.three) {
+    if method > 2 || basis > 1 || (method > 0 && !set.has_incurred) {
         return Err(6);
     }
     Ok(())
@@ -35,7 +35,7 @@ fn cell(v: i64, share: &[i64; 20], p: &[i64; 20], j: usize, from: usize, to: usi
     nearest(i128::from(v) * sum, SCALE * SCALE) as i64
 }
 
-/// Questions 9 to 14, the entries at the front of `out`, and the left overs.
+/// Questions 9 to 14, the entries at the front of `out`, and the leftovers.
 pub fn forecast_set(set: &Set, method: u64, basis: u64, out: &mut [i64]) -> Result<[i64; 20], u64> {
     let m = set.m;
     let estimates = estimates(set)?;

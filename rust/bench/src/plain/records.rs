@@ -6,7 +6,7 @@ use std::ops::RangeInclusive;
 /// The triangles of a set, counts, paid and incurred; cell (i,j) at 20 × (i-1) + j.
 pub struct Set {
     pub m: usize,
-    pub three: bool,
+    pub has_incurred: bool,
     pub triangles: [[i64; 400]; 3],
 }
 
@@ -38,11 +38,11 @@ pub fn read_set(file: &[u8], m: usize) -> Result<Set, u64> {
     if !(2..=20).contains(&m) {
         return Err(1);
     }
-    let three = file.len() == 24 * m * (m + 1);
-    if !three && file.len() != 16 * m * (m + 1) {
+    let has_incurred = file.len() == 24 * m * (m + 1);
+    if !has_incurred && file.len() != 16 * m * (m + 1) {
         return Err(2);
     }
-    let kinds = if three { 3 } else { 2 };
+    let kinds = if has_incurred { 3 } else { 2 };
     let records = || file.chunks_exact(16);
     if !records().all(|record| is_well_formed(record, m, kinds)) {
         return Err(3);
@@ -61,7 +61,7 @@ pub fn read_set(file: &[u8], m: usize) -> Result<Set, u64> {
     }
     Ok(Set {
         m,
-        three,
+        has_incurred,
         triangles,
     })
 }

@@ -4,7 +4,7 @@ use super::nearest;
 use super::records::Set;
 use super::shares::{incurred_ultimates, Estimates};
 
-/// V(i) and the left overs, year i at place i - 1.
+/// V(i) and the leftovers, year i at place i - 1.
 pub struct RowBases {
     pub v: [i64; 20],
     pub leftovers: [i64; 20],

@@ -1,9 +1,9 @@
 //! The back-test.
 
-use super::{arguments, fixed};
+use super::{arguments, both_ways, fixed, method_and_basis};
 use crate::difference::{same, Difference};
 use crate::memory::Memory;
-use pardesul::calls;
+use pardesul::{calls, BackTest};
 use reference::generate::Case;
 
 pub fn compare(seed: u64, case: &Case) -> Result<bool, Difference> {
@@ -21,9 +21,28 @@ pub fn compare(seed: u64, case: &Case) -> Result<bool, Difference> {
         text,
     )?;
     let list = wanted
+        .as_ref()
         .ok()
-        .map(|test| [test.cells, test.by_cell, test.by_year, test.in_all]);
+        .map(|test| [test.cells, test.cellwise, test.yearwise, test.overall]);
     let lists = list.as_ref().map(|list| [&list[..]]);
     memory.holds("back-test", lists.as_ref().map(|lists| &lists[..]), text)?;
+
+    let Some((method, basis)) = method_and_basis(seed, case)? else {
+        return Ok(refusal == 0);
+    };
+    let wanted = wanted.map(|wanted| BackTest {
+        cells: wanted.cells,
+        cellwise: wanted.cellwise,
+        yearwise: wanted.yearwise,
+        overall: wanted.overall,
+    });
+    let ways = both_ways(
+        case,
+        |file, m| pardesul::back_test(file, m, method, basis, c),
+        |set| set.back_test(method, basis, c),
+    );
+    for (way, found) in ways {
+        same(&format!("back-test {way}"), &found, &wanted, text)?;
+    }
     Ok(refusal == 0)
 }

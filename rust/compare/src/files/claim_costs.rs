@@ -1,10 +1,14 @@
 //! The claim costs, their floats by their bits.
 
-use super::{arguments, fixed};
-use crate::difference::{same, same_list, Difference};
+use super::{arguments, both_ways, fixed};
+use crate::difference::{same, Difference};
 use crate::memory::Memory;
 use pardesul::calls;
 use reference::generate::Case;
+
+/// mu, the factors and the inflations, of an inflation its kind and its ratio, 0 where there is
+/// none.
+type Bits = (u64, Vec<u64>, Vec<(u8, u64)>);
 
 pub fn compare(seed: u64, case: &Case) -> Result<bool, Difference> {
     let text = || arguments(seed, case);
@@ -22,44 +26,47 @@ pub fn compare(seed: u64, case: &Case) -> Result<bool, Difference> {
         wanted.as_ref().err().copied(),
         text,
     )?;
-    let natural = pardesul::claim_costs(file, m).map_err(|refusal| refusal.number());
-    same(
-        "pardesul::claim_costs, refusal",
-        natural.as_ref().err(),
-        wanted.as_ref().err(),
-        text,
-    )?;
+    match &wanted {
+        Ok(wanted) => {
+            let years = wanted.inflations.map(of_reference);
+            let ratios = years.map(|(_, ratio)| f64::from_bits(ratio));
+            let lists: [&[f64]; 3] = [&[wanted.mu], &wanted.factors, &ratios];
+            floats.holds("claim costs, floats", Some(&lists), text)?;
+            let kinds = years.map(|(kind, _)| kind);
+            bytes.holds("claim costs, kinds", Some(&[&kinds]), text)?;
+        }
+        Err(_) => {
+            floats.holds("claim costs, floats", None, text)?;
+            bytes.holds("claim costs, kinds", None, text)?;
+        }
+    }
 
-    let (Ok(wanted), Ok(natural)) = (wanted, natural) else {
-        floats.holds("claim costs, floats", None, text)?;
-        bytes.holds("claim costs, kinds", None, text)?;
-        return Ok(false);
-    };
-    let years = wanted.inflations.map(of_reference);
-    let ratios = years.map(|(_, ratio)| f64::from_bits(ratio));
-    let lists: [&[f64]; 3] = [&[wanted.mu], &wanted.factors, &ratios];
-    floats.holds("claim costs, floats", Some(&lists), text)?;
-    let kinds = years.map(|(kind, _)| kind);
-    bytes.holds("claim costs, kinds", Some(&[&kinds]), text)?;
-
-    let what = "pardesul::claim_costs";
-    same(what, natural.mu.to_bits(), wanted.mu.to_bits(), text)?;
-    same_list(
-        what,
-        &bits(&natural.factors),
-        &bits(&wanted.factors[..m - 1]),
-        text,
-    )?;
-    let inflations: Vec<_> = natural.inflations.into_iter().map(of_library).collect();
-    same_list(what, &inflations, &years[..m], text)?;
-    Ok(true)
+    let wanted = wanted.map(|wanted| -> Bits {
+        let inflations = wanted.inflations[..m].iter().copied().map(of_reference);
+        (
+            wanted.mu.to_bits(),
+            bits(&wanted.factors[..m - 1]),
+            inflations.collect(),
+        )
+    });
+    for (way, found) in both_ways(case, pardesul::claim_costs, |set| set.claim_costs()) {
+        let found = found.map(|found| -> Bits {
+            let inflations = found.inflations.iter().copied().map(of_library);
+            (
+                found.mu.to_bits(),
+                bits(&found.factors),
+                inflations.collect(),
+            )
+        });
+        same(&format!("claim costs {way}"), &found, &wanted, text)?;
+    }
+    Ok(refusal == 0)
 }
 
 fn bits(list: &[f64]) -> Vec<u64> {
     list.iter().map(|float| float.to_bits()).collect()
 }
 
-/// The kind of an inflation and the bits of its ratio, 0 where there is none.
 fn of_reference(inflation: reference::Inflation) -> (u8, u64) {
     match inflation {
         reference::Inflation::BaseYear => (0, 0),
@@ -68,7 +75,6 @@ fn of_reference(inflation: reference::Inflation) -> (u8, u64) {
     }
 }
 
-/// The same of the library's type.
 fn of_library(inflation: pardesul::Inflation) -> (u8, u64) {
     match inflation {
         pardesul::Inflation::BaseYear => (0, 0),

@@ -1,6 +1,6 @@
 //! The delays.
 
-use super::{arguments, fixed};
+use super::{arguments, both_ways, fixed};
 use crate::difference::{same, Difference};
 use crate::memory::Memory;
 use pardesul::calls;
@@ -23,12 +23,9 @@ pub fn compare(seed: u64, case: &Case) -> Result<bool, Difference> {
     let list = wanted.as_ref().ok().map(|p| [&p[..]]);
     memory.holds("delays", list.as_ref().map(|list| &list[..]), text)?;
 
-    let natural = pardesul::delays(file, m).map_err(|refusal| refusal.number());
-    same(
-        "pardesul::delays",
-        natural,
-        wanted.map(|p| p[..m].to_vec()),
-        text,
-    )?;
+    let wanted = wanted.map(|p| p[..m].to_vec());
+    for (way, found) in both_ways(case, pardesul::delays, |set| set.delays()) {
+        same(&format!("delays {way}"), &found, &wanted, text)?;
+    }
     Ok(refusal == 0)
 }

@@ -1,9 +1,10 @@
 //! The forecast.
 
-use super::{arguments, fixed};
-use crate::difference::{same, same_list, Difference};
+use super::{arguments, both_ways, fixed, method_and_basis};
+use crate::difference::{same, Difference};
 use crate::memory::Memory;
-use pardesul::{calls, Basis, Method, Tally};
+use pardesul::calls;
+use reference::forecast::entry_count;
 use reference::generate::Case;
 
 pub fn compare(seed: u64, case: &Case) -> Result<bool, Difference> {
@@ -26,38 +27,29 @@ pub fn compare(seed: u64, case: &Case) -> Result<bool, Difference> {
         .map(|of| [&of.entries[..], &of.leftovers]);
     memory.holds("forecast", lists.as_ref().map(|lists| &lists[..]), text)?;
 
-    if let (Ok(wanted), Some(method), Some(basis)) = (&wanted, method(case), basis(case)) {
-        let found = match pardesul::forecast(file, m, method, basis) {
-            Ok(found) => found,
-            Err(refusal) => {
-                return same("pardesul::forecast", refusal.number(), 0, text).map(|_| false)
-            }
-        };
-        same_list("pardesul::forecast", found.entries(), &wanted.entries, text)?;
-        same_list(
-            "pardesul::forecast, left overs",
-            &found.leftovers,
-            &wanted.leftovers[..m],
-            text,
-        )?;
+    let Some((method, basis)) = method_and_basis(seed, case)? else {
+        return Ok(refusal == 0);
+    };
+    // The output of the safe crate is always long enough.
+    let most = entry_count(20);
+    let wanted = reference::forecast(file, case.m, case.method, case.basis, most);
+    let wanted = wanted.map(|wanted| {
         let tally = reference::Tally::of_entries(&wanted.entries, m);
-        let tally = Tally {
-            rbns: tally.rbns,
-            ibnr: tally.ibnr,
-        };
-        same("Forecast::tally", found.tally(), tally, text)?;
+        let leftovers = wanted.leftovers[..m].to_vec();
+        (wanted.entries, leftovers, tally.rbns, tally.ibnr)
+    });
+    let ways = both_ways(
+        case,
+        |file, m| pardesul::forecast(file, m, method, basis),
+        |set| set.forecast(method, basis),
+    );
+    for (way, found) in ways {
+        let found = found.map(|found| {
+            let tally = found.tally();
+            let entries = found.entries().to_vec();
+            (entries, found.leftovers, tally.rbns, tally.ibnr)
+        });
+        same(&format!("forecast {way}"), &found, &wanted, text)?;
     }
     Ok(refusal == 0)
-}
-
-fn method(case: &Case) -> Option<Method> {
-    [Method::Dcl, Method::Bdcl, Method::Idcl]
-        .get(case.method as usize)
-        .copied()
-}
-
-fn basis(case: &Case) -> Option<Basis> {
-    [Basis::Actual, Basis::Estimated]
-        .get(case.basis as usize)
-        .copied()
 }

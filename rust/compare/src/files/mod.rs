@@ -9,8 +9,9 @@ mod shares;
 
 pub use reader::compare_file as read_set;
 
-use crate::difference::{hexadecimal, Difference};
+use crate::difference::{hexadecimal, same, Difference};
 use crate::Accepted;
+use pardesul::{Basis, Method, Refusal, TriangleSet};
 use reference::generate::{any_set, case, shuffled_file, Case, Random};
 
 /// A call on a case; says whether it was accepted.
@@ -70,6 +71,44 @@ fn arguments(seed: u64, case: &Case) -> String {
     let file = hexadecimal(&case.file);
     let (m, method, basis, cut, room) = (case.m, case.method, case.basis, case.cut, case.out_len);
     format!("seed {seed}, m {m}, method {method}, basis {basis}, cut {cut}, output of {room}, file {file}")
+}
+
+/// A call of the safe crate on a case both ways: on the file, and on the set read from it.
+fn both_ways<T>(
+    case: &Case,
+    of_file: impl Fn(&[u8], usize) -> Result<T, Refusal>,
+    of_set: impl Fn(TriangleSet) -> Result<T, Refusal>,
+) -> [(&'static str, Result<T, u64>); 2] {
+    let (file, m) = (&case.file[..], case.m as usize);
+    [
+        ("of a file", numbered(of_file(file, m))),
+        (
+            "of a set",
+            numbered(TriangleSet::read(file, m).and_then(of_set)),
+        ),
+    ]
+}
+
+/// The method and basis of a case in the types of the safe crate, which refuses other numbers with
+/// 6.
+fn method_and_basis(seed: u64, case: &Case) -> Result<Option<(Method, Basis)>, Difference> {
+    let found =
+        Method::try_from(case.method).and_then(|method| Ok((method, Basis::try_from(case.basis)?)));
+    let found = numbered(found);
+    let wanted = match (case.method, case.basis) {
+        (0..=2, 0..=1) => Ok((case.method, case.basis)),
+        _ => Err(6),
+    };
+    let numbers = found.map(|(method, basis)| (method as u64, basis as u64));
+    same("method and basis", numbers, wanted, || {
+        arguments(seed, case)
+    })?;
+    Ok(found.ok())
+}
+
+/// A refusal by its number.
+fn numbered<T>(answer: Result<T, Refusal>) -> Result<T, u64> {
+    answer.map_err(Refusal::number)
 }
 
 /// A list of fixed size.

@@ -1,6 +1,6 @@
 //! The reader.
 
-use super::fixed;
+use super::{fixed, numbered};
 use crate::difference::{hexadecimal, same, Difference};
 use crate::memory::Memory;
 use pardesul::{calls, Triangle, TriangleSet};
@@ -17,11 +17,11 @@ pub fn compare_file(seed: u64, file: &[u8], m: u64) -> Result<bool, Difference> 
     let wanted = read_set(file, m);
     let m = m as usize;
 
-    let flag = seed as u8;
-    let mut three = flag;
+    let before = seed & 1 == 1;
+    let mut has_incurred = before;
     let mut memory = Memory::new(seed, &[400; 3]);
     let [counts, paid, incurred] = memory.lists().map(fixed);
-    let refusal = calls::read_set(file, m, &mut three, counts, paid, incurred);
+    let refusal = calls::read_set(file, m, &mut has_incurred, counts, paid, incurred);
     same(
         "read, refusal",
         Some(refusal).filter(|&n| n != 0),
@@ -31,22 +31,17 @@ pub fn compare_file(seed: u64, file: &[u8], m: u64) -> Result<bool, Difference> 
     match &wanted {
         Ok(set) => {
             let lists: [&[i64]; 3] = [&set.counts, &set.paid, &set.incurred];
-            same("read, flag", three, u8::from(set.incurred_there), text)?;
+            same("read, flag", has_incurred, set.has_incurred, text)?;
             memory.holds("read", Some(&lists), text)?;
         }
         Err(_) => {
-            same("read, flag", three, flag, text)?;
+            same("read, flag", has_incurred, before, text)?;
             memory.holds("read", None, text)?;
         }
     }
 
-    let natural = TriangleSet::read(file, m).map_err(|refusal| refusal.number());
-    same(
-        "TriangleSet::read",
-        natural,
-        wanted.map(|set| of(&set)),
-        text,
-    )?;
+    let found = numbered(TriangleSet::read(file, m));
+    same("TriangleSet::read", found, wanted.map(|set| of(&set)), text)?;
     Ok(refusal == 0)
 }
 
@@ -56,6 +51,6 @@ fn of(set: &Set) -> TriangleSet {
         m: set.m,
         counts: Triangle::new(set.counts),
         paid: Triangle::new(set.paid),
-        incurred: set.incurred_there.then(|| Triangle::new(set.incurred)),
+        incurred: set.has_incurred.then(|| Triangle::new(set.incurred)),
     }
 }

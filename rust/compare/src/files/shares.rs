@@ -1,6 +1,6 @@
 //! Shares and ultimates.
 
-use super::{arguments, fixed};
+use super::{arguments, both_ways, fixed};
 use crate::difference::{same, Difference};
 use crate::memory::Memory;
 use pardesul::{calls, Shares};
@@ -26,7 +26,6 @@ pub fn compare(seed: u64, case: &Case) -> Result<bool, Difference> {
         .map(|of| [&of.b[..], &of.n, &of.q, &of.g, &of.u]);
     memory.holds("shares", lists.as_ref().map(|lists| &lists[..]), text)?;
 
-    let natural = pardesul::shares(file, m).map_err(|refusal| refusal.number());
     let first = |list: &[i64; 20]| list[..m].to_vec();
     let wanted = wanted.map(|of| Shares {
         b: first(&of.b),
@@ -35,6 +34,8 @@ pub fn compare(seed: u64, case: &Case) -> Result<bool, Difference> {
         g: first(&of.g),
         u: first(&of.u),
     });
-    same("pardesul::shares", natural, wanted, text)?;
+    for (way, found) in both_ways(case, pardesul::shares, |set| set.shares()) {
+        same(&format!("shares {way}"), &found, &wanted, text)?;
+    }
     Ok(refusal == 0)
 }

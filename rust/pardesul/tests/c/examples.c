@@ -1,5 +1,5 @@
-/* The examples of document 01 from C: every function of the header, accepted and refused, and what a refusal leaves. Prints the first thing that is
- * wrong and ends with status 1, or ends with 0. */
+/* The examples of document 01 from C: every function of the header, accepted and refused, and what
+ * a refusal leaves. Prints the first thing that is wrong and ends with status 1, or ends with 0. */
 #include "pardesul.h"
 #include <stdio.h>
 #include <stdlib.h>
@@ -16,7 +16,8 @@ typedef struct {
 
 typedef const int64_t *rows;
 
-static const int64_t counts_k[] = {80, 20, 90}, paid_k[] = {600, 400, 660}, incurred_k[] = {900, 100, 1080};
+static const int64_t counts_k[] = {80, 20, 90}, paid_k[] = {600, 400, 660},
+                     incurred_k[] = {900, 100, 1080};
 
 static void expect(bool holds, const char *what) {
   if (!holds) {
@@ -47,20 +48,28 @@ static set_file file_of(size_t m, rows counts, rows paid, rows incurred) {
   fill(triangles[0], m, counts);
   fill(triangles[1], m, paid);
   if (incurred) fill(triangles[2], m, incurred);
-  expect(pardesul_write_set(m, incurred != NULL, triangles[0], triangles[1], triangles[2], file.bytes, sizeof file.bytes) == 0, "a set's file");
+  expect(pardesul_write_set(m, incurred != NULL, triangles[0], triangles[1], triangles[2],
+                            file.bytes, sizeof file.bytes) == PARDESUL_ACCEPTED,
+         "a set's file");
   return file;
 }
 
 static set_file set_k(void) { return file_of(2, counts_k, paid_k, incurred_k); }
 
 /* Delays of 3 x 10^9 and -8 x 10^9. */
-static set_file widest(void) { return file_of(2, (int64_t[]){25, 75, 50}, (int64_t[]){750, 250, 750}, NULL); }
+static set_file widest(void) {
+  return file_of(2, (int64_t[]){25, 75, 50}, (int64_t[]){750, 250, 750}, NULL);
+}
 
 /* Refused 12. */
-static set_file too_wide(void) { return file_of(2, (int64_t[]){25, 75, 50}, (int64_t[]){751, 249, 750}, NULL); }
+static set_file too_wide(void) {
+  return file_of(2, (int64_t[]){25, 75, 50}, (int64_t[]){751, 249, 750}, NULL);
+}
 
 /* Refused 11 where late is 1000. */
-static set_file thin(int64_t late) { return file_of(2, (int64_t[]){1, late, 90}, paid_k, incurred_k); }
+static set_file thin(int64_t late) {
+  return file_of(2, (int64_t[]){1, late, 90}, paid_k, incurred_k);
+}
 
 static void writer(void) {
   struct {
@@ -73,14 +82,22 @@ static void writer(void) {
   fill(set.incurred, 2, incurred_k);
   memset(out, BEFORE, sizeof out);
   expect(length == 144, "the length of a file");
-  expect(pardesul_write_set(21, true, set.counts, set.paid, set.incurred, out, sizeof out) == 1, "a writer of 21 years");
-  expect(pardesul_write_set(2, true, set.counts, set.paid, set.incurred, out, length - 1) == 7, "an output that is too short");
+  expect(pardesul_write_set(21, true, set.counts, set.paid, set.incurred, out, sizeof out) ==
+             PARDESUL_REFUSED_YEARS,
+         "a writer of 21 years");
+  expect(pardesul_write_set(2, true, set.counts, set.paid, set.incurred, out, length - 1) ==
+             PARDESUL_REFUSED_OUTPUT,
+         "an output that is too short");
   set.paid[PARDESUL_PLACE(2, 0)] = -1;
-  expect(pardesul_write_set(2, true, set.counts, set.paid, set.incurred, out, sizeof out) == 5, "a payment below zero");
+  expect(pardesul_write_set(2, true, set.counts, set.paid, set.incurred, out, sizeof out) ==
+             PARDESUL_REFUSED_VALUE,
+         "a payment below zero");
   expect(untouched(out, sizeof out), "what a refused writer leaves");
   set.paid[PARDESUL_PLACE(2, 0)] = 660;
   set.paid[PARDESUL_PLACE(2, 1)] = -1;
-  expect(pardesul_write_set(2, true, set.counts, set.paid, set.incurred, out, sizeof out) == 0, "the writer, anything outside the cells");
+  expect(pardesul_write_set(2, true, set.counts, set.paid, set.incurred, out, sizeof out) ==
+             PARDESUL_ACCEPTED,
+         "the writer, anything outside the cells");
   expect(untouched(out + length, sizeof out - length), "the bytes past the file");
 }
 
@@ -89,50 +106,82 @@ static void reader(void) {
     int64_t counts[PARDESUL_CELLS], paid[PARDESUL_CELLS], incurred[PARDESUL_CELLS];
   } set;
   int64_t wanted[PARDESUL_CELLS];
-  uint8_t three = BEFORE;
+  bool has_incurred = true;
   set_file file = set_k(), two = file_of(2, counts_k, paid_k, NULL);
   memset(&set, BEFORE, sizeof set);
-  expect(pardesul_read_set(file.bytes, file.length, 1, &three, set.counts, set.paid, set.incurred) == 1, "a reader of one year");
-  expect(pardesul_read_set(file.bytes, 0, 2, &three, set.counts, set.paid, set.incurred) == 2, "a file of no bytes");
+  expect(pardesul_read_set(file.bytes, file.length, 1, &has_incurred, set.counts, set.paid,
+                           set.incurred) == PARDESUL_REFUSED_YEARS,
+         "a reader of one year");
+  expect(pardesul_read_set(file.bytes, 0, 2, &has_incurred, set.counts, set.paid, set.incurred) ==
+             PARDESUL_REFUSED_LENGTH,
+         "a file of no bytes");
   file.bytes[7] = 1;
-  expect(pardesul_read_set(file.bytes, file.length, 2, &three, set.counts, set.paid, set.incurred) == 3, "a byte 7 that is not zero");
-  expect(three == BEFORE && untouched(&set, sizeof set), "what a refused reader leaves");
+  expect(pardesul_read_set(file.bytes, file.length, 2, &has_incurred, set.counts, set.paid,
+                           set.incurred) == PARDESUL_REFUSED_RECORD,
+         "a byte 7 that is not zero");
+  expect(has_incurred && untouched(&set, sizeof set), "what a refused reader leaves");
+  has_incurred = false;
+  expect(pardesul_read_set(file.bytes, file.length, 2, &has_incurred, set.counts, set.paid,
+                           set.incurred) == PARDESUL_REFUSED_RECORD,
+         "the same again");
+  expect(!has_incurred, "the other flag that a refused reader leaves");
   file.bytes[7] = 0;
-  expect(pardesul_read_set(file.bytes, file.length, 2, &three, set.counts, set.paid, set.incurred) == 0 && three == 1, "the reader");
+  expect(pardesul_read_set(file.bytes, file.length, 2, &has_incurred, set.counts, set.paid,
+                           set.incurred) == PARDESUL_ACCEPTED &&
+             has_incurred,
+         "the reader");
   fill(wanted, 2, counts_k);
   expect(memcmp(set.counts, wanted, sizeof wanted) == 0, "the counts read back");
   fill(wanted, 2, paid_k);
   expect(memcmp(set.paid, wanted, sizeof wanted) == 0, "the payments read back");
   fill(wanted, 2, incurred_k);
   expect(memcmp(set.incurred, wanted, sizeof wanted) == 0, "incurred read back");
-  expect(pardesul_read_set(two.bytes, two.length, 2, &three, set.counts, set.paid, set.incurred) == 0 && three == 0, "a set without incurred");
+  expect(pardesul_read_set(two.bytes, two.length, 2, &has_incurred, set.counts, set.paid,
+                           set.incurred) == PARDESUL_ACCEPTED &&
+             !has_incurred,
+         "a set without incurred");
   memset(wanted, 0, sizeof wanted);
   expect(memcmp(set.incurred, wanted, sizeof wanted) == 0, "incurred where there is none");
 }
 
 static void shares(void) {
   struct {
-    int64_t b[PARDESUL_LIST], n[PARDESUL_LIST], q[PARDESUL_LIST], g[PARDESUL_LIST], u[PARDESUL_LIST];
+    int64_t b[PARDESUL_LIST], n[PARDESUL_LIST], q[PARDESUL_LIST], g[PARDESUL_LIST],
+        u[PARDESUL_LIST];
   } of;
   set_file k = set_k(), refused = thin(1000), passed = thin(999);
   memset(&of, BEFORE, sizeof of);
-  expect(pardesul_shares(refused.bytes, refused.length, 2, of.b, of.n, of.q, of.g, of.u) == 11, "row 1 counts 1, 1000");
+  expect(pardesul_shares(refused.bytes, refused.length, 2, of.b, of.n, of.q, of.g, of.u) ==
+             PARDESUL_REFUSED_SHARE,
+         "row 1 counts 1, 1000");
   expect(untouched(&of, sizeof of), "what refused shares leave");
-  expect(pardesul_shares(passed.bytes, passed.length, 2, of.b, of.n, of.q, of.g, of.u) == 0, "row 1 counts 1, 999");
-  expect(pardesul_shares(k.bytes, k.length, 2, of.b, of.n, of.q, of.g, of.u) == 0, "the shares");
+  expect(pardesul_shares(passed.bytes, passed.length, 2, of.b, of.n, of.q, of.g, of.u) ==
+             PARDESUL_ACCEPTED,
+         "row 1 counts 1, 999");
+  expect(pardesul_shares(k.bytes, k.length, 2, of.b, of.n, of.q, of.g, of.u) == PARDESUL_ACCEPTED,
+         "the shares");
   expect(of.b[0] == 800000000 && of.b[1] == 200000000, "b");
-  expect(of.q[0] == 600000000 && of.q[1] == 400000000 && of.g[0] == 600000000 && of.g[1] == 1000000000, "q and g");
-  expect(of.n[0] == 100 && of.n[1] == 113 && of.u[0] == 1000 && of.u[1] == 1100 && of.u[2] == 0, "N and U");
+
+  expect(of.q[0] == 600000000 && of.q[1] == 400000000 && of.g[0] == 600000000 &&
+             of.g[1] == 1000000000,
+         "q and g");
+  expect(of.n[0] == 100 && of.n[1] == 113 && of.u[0] == 1000 && of.u[1] == 1100 && of.u[2] == 0,
+         "N and U");
 }
 
 static void delays(void) {
   int64_t p[PARDESUL_LIST];
   set_file k = set_k(), wide = widest(), refused = too_wide();
   memset(p, BEFORE, sizeof p);
-  expect(pardesul_delays(refused.bytes, refused.length, 2, p) == 12, "paid 751, 249");
+  expect(pardesul_delays(refused.bytes, refused.length, 2, p) == PARDESUL_REFUSED_DELAY,
+         "paid 751, 249");
   expect(untouched(p, sizeof p), "what refused delays leave");
-  expect(pardesul_delays(k.bytes, k.length, 2, p) == 0 && p[0] == 750000000 && p[1] == 312500000 && p[2] == 0, "the delays");
-  expect(pardesul_delays(wide.bytes, wide.length, 2, p) == 0 && p[0] == 3000000000 && p[1] == -8000000000, "the widest delays");
+  expect(pardesul_delays(k.bytes, k.length, 2, p) == PARDESUL_ACCEPTED && p[0] == 750000000 &&
+             p[1] == 312500000 && p[2] == 0,
+         "the delays");
+  expect(pardesul_delays(wide.bytes, wide.length, 2, p) == PARDESUL_ACCEPTED &&
+             p[0] == 3000000000 && p[1] == -8000000000,
+         "the widest delays");
 }
 
 static void claim_costs(void) {
@@ -140,17 +189,30 @@ static void claim_costs(void) {
     double mu, factors[PARDESUL_LIST], ratios[PARDESUL_LIST];
     uint8_t kinds[PARDESUL_LIST];
   } of;
-  set_file k = set_k(), refused = thin(1000), unpaid = file_of(2, counts_k, (int64_t[]){600, 400, 0}, NULL);
+  set_file k = set_k(), refused = thin(1000),
+           unpaid = file_of(2, counts_k, (int64_t[]){600, 400, 0}, NULL);
   memset(&of, BEFORE, sizeof of);
-  expect(pardesul_claim_costs(refused.bytes, refused.length, 2, &of.mu, of.factors, of.kinds, of.ratios) == 11, "refused claim costs");
-  expect(untouched(&of.mu, sizeof of.mu) && untouched(of.factors, sizeof of.factors), "the mean cost and factors that refused claim costs leave");
-  expect(untouched(of.kinds, sizeof of.kinds) && untouched(of.ratios, sizeof of.ratios), "the inflations that refused claim costs leave");
-  expect(pardesul_claim_costs(k.bytes, k.length, 2, &of.mu, of.factors, of.kinds, of.ratios) == 0, "the claim costs");
-  expect(of.mu == 10 && of.factors[0] == 1000.0 / 600.0 && of.factors[1] == 0, "mu and the factors");
-  expect(of.kinds[0] == PARDESUL_BASE_YEAR && of.kinds[1] == PARDESUL_RATIO && of.kinds[2] == PARDESUL_NO_PAYMENTS_YET, "what the inflations are");
+  expect(pardesul_claim_costs(refused.bytes, refused.length, 2, &of.mu, of.factors, of.kinds,
+                              of.ratios) == PARDESUL_REFUSED_SHARE,
+         "refused claim costs");
+  expect(untouched(&of.mu, sizeof of.mu) && untouched(of.factors, sizeof of.factors),
+         "the mean cost and factors that refused claim costs leave");
+  expect(untouched(of.kinds, sizeof of.kinds) && untouched(of.ratios, sizeof of.ratios),
+         "the inflations that refused claim costs leave");
+  expect(pardesul_claim_costs(k.bytes, k.length, 2, &of.mu, of.factors, of.kinds, of.ratios) ==
+             PARDESUL_ACCEPTED,
+         "the claim costs");
+  expect(of.mu == 10 && of.factors[0] == 1000.0 / 600.0 && of.factors[1] == 0,
+         "mu and the factors");
+
+  expect(of.kinds[0] == PARDESUL_INFLATION_BASE_YEAR && of.kinds[1] == PARDESUL_INFLATION_RATIO &&
+             of.kinds[2] == PARDESUL_INFLATION_NO_PAYMENTS_YET,
+         "what the inflations are");
   expect(of.ratios[0] == 0 && of.ratios[1] == 1100.0 / 113.0 / 10.0, "the ratios");
-  expect(pardesul_claim_costs(unpaid.bytes, unpaid.length, 2, &of.mu, of.factors, of.kinds, of.ratios) == 0, "a year without payments");
-  expect(of.kinds[1] == PARDESUL_NO_PAYMENTS_YET && of.ratios[1] == 0, "its inflation");
+  expect(pardesul_claim_costs(unpaid.bytes, unpaid.length, 2, &of.mu, of.factors, of.kinds,
+                              of.ratios) == PARDESUL_ACCEPTED,
+         "a year without payments");
+  expect(of.kinds[1] == PARDESUL_INFLATION_NO_PAYMENTS_YET && of.ratios[1] == 0, "its inflation");
 }
 
 /* Whether a forecast's RBNS and IBNR of a cell are these. */
@@ -161,33 +223,65 @@ static bool cell(const int64_t *out, size_t i, size_t j, int64_t rbns, int64_t i
 static void forecast(void) {
   int64_t out[PARDESUL_ENTRIES(2) + 1], leftovers[PARDESUL_LIST];
   const size_t length = PARDESUL_ENTRIES(2);
-  set_file k = set_k(), two = file_of(2, counts_k, paid_k, NULL), wide = widest(), refused = too_wide();
+  set_file k = set_k(), two = file_of(2, counts_k, paid_k, NULL), wide = widest(),
+           refused = too_wide();
   memset(out, BEFORE, sizeof out);
   memset(leftovers, BEFORE, sizeof leftovers);
-  expect(pardesul_forecast(k.bytes, k.length, 2, 3, 1, out, length, leftovers) == 6, "a method that there is not");
-  expect(pardesul_forecast(two.bytes, two.length, 2, 2, 1, out, length, leftovers) == 6, "IDCL without incurred");
-  expect(pardesul_forecast(k.bytes, k.length, 2, 0, 1, out, length - 1, leftovers) == 7, "entries that are too few");
-  expect(pardesul_forecast(refused.bytes, refused.length, 2, 0, 1, out, length, leftovers) == 12, "the forecast of paid 751, 249");
-  expect(untouched(out, sizeof out) && untouched(leftovers, sizeof leftovers), "what a refused forecast leaves");
-  expect(pardesul_forecast(k.bytes, k.length, 2, 0, 1, out, length + 1, leftovers) == 0, "DCL");
-  expect(cell(out, 2, 1, 275, 165) && cell(out, 2, 2, 0, 69) && cell(out, 1, 2, 63, 0), "the cells of DCL");
+  expect(pardesul_forecast(k.bytes, k.length, 2, 3, 1, out, length, leftovers) ==
+             PARDESUL_REFUSED_METHOD,
+         "a method that there is not");
+  expect(pardesul_forecast(two.bytes, two.length, 2, PARDESUL_METHOD_IDCL, PARDESUL_BASIS_ESTIMATED,
+                           out, length, leftovers) == PARDESUL_REFUSED_METHOD,
+         "IDCL without incurred");
+  expect(pardesul_forecast(k.bytes, k.length, 2, PARDESUL_METHOD_DCL, PARDESUL_BASIS_ESTIMATED, out,
+                           length - 1, leftovers) == PARDESUL_REFUSED_OUTPUT,
+         "entries that are too few");
+  expect(pardesul_forecast(refused.bytes, refused.length, 2, PARDESUL_METHOD_DCL,
+                           PARDESUL_BASIS_ESTIMATED, out, length,
+                           leftovers) == PARDESUL_REFUSED_DELAY,
+         "the forecast of paid 751, 249");
+  expect(untouched(out, sizeof out) && untouched(leftovers, sizeof leftovers),
+         "what a refused forecast leaves");
+  expect(pardesul_forecast(k.bytes, k.length, 2, PARDESUL_METHOD_DCL, PARDESUL_BASIS_ESTIMATED, out,
+                           length + 1, leftovers) == PARDESUL_ACCEPTED,
+         "DCL");
+  expect(cell(out, 2, 1, 275, 165) && cell(out, 2, 2, 0, 69) && cell(out, 1, 2, 63, 0),
+         "the cells of DCL");
   expect(cell(out, 1, 0, 0, 0) && cell(out, 1, 1, 0, 0) && cell(out, 2, 0, 0, 0), "known cells");
-  expect(untouched(out + length, sizeof *out) && leftovers[0] == 0 && leftovers[19] == 0, "the entry past the forecast, and the left overs");
-  expect(pardesul_forecast(k.bytes, k.length, 2, 1, 1, out, length, leftovers) == 0 && cell(out, 2, 1, 300, 180), "BDCL");
-  expect(pardesul_forecast(k.bytes, k.length, 2, 2, 1, out, length, leftovers) == 0 && cell(out, 2, 1, 338, 203), "IDCL");
-  expect(pardesul_forecast(wide.bytes, wide.length, 2, 0, 1, out, length, leftovers) == 0 && cell(out, 2, 1, -2000, 2250), "cells of the widest delays");
+  expect(untouched(out + length, sizeof *out) && leftovers[0] == 0 && leftovers[19] == 0,
+         "the entry past the forecast, and the leftovers");
+  expect(pardesul_forecast(k.bytes, k.length, 2, PARDESUL_METHOD_BDCL, PARDESUL_BASIS_ESTIMATED,
+                           out, length, leftovers) == PARDESUL_ACCEPTED &&
+             cell(out, 2, 1, 300, 180),
+         "BDCL");
+  expect(pardesul_forecast(k.bytes, k.length, 2, PARDESUL_METHOD_IDCL, PARDESUL_BASIS_ESTIMATED,
+                           out, length, leftovers) == PARDESUL_ACCEPTED &&
+             cell(out, 2, 1, 338, 203),
+         "IDCL");
+  expect(pardesul_forecast(wide.bytes, wide.length, 2, PARDESUL_METHOD_DCL,
+                           PARDESUL_BASIS_ESTIMATED, out, length, leftovers) == PARDESUL_ACCEPTED &&
+             cell(out, 2, 1, -2000, 2250),
+         "cells of the widest delays");
 }
 
 static void back_test(void) {
   struct {
     uint64_t cells, cellwise, yearwise, overall;
   } of;
-  set_file file = file_of(3, (int64_t[]){80, 20, 0, 90, 25, 100}, (int64_t[]){600, 400, 50, 660, 430, 700}, NULL);
+  set_file file = file_of(3, (int64_t[]){80, 20, 0, 90, 25, 100},
+                          (int64_t[]){600, 400, 50, 660, 430, 700}, NULL);
   memset(&of, BEFORE, sizeof of);
-  expect(pardesul_back_test(file.bytes, file.length, 3, 0, 1, 2, &of.cells, &of.cellwise, &of.yearwise, &of.overall) == 8, "a cut of 2 of 3 years");
+  expect(pardesul_back_test(file.bytes, file.length, 3, PARDESUL_METHOD_DCL,
+                            PARDESUL_BASIS_ESTIMATED, 2, &of.cells, &of.cellwise, &of.yearwise,
+                            &of.overall) == PARDESUL_REFUSED_CUT,
+         "a cut of 2 of 3 years");
   expect(untouched(&of, sizeof of), "what a refused back-test leaves");
-  expect(pardesul_back_test(file.bytes, file.length, 3, 0, 1, 1, &of.cells, &of.cellwise, &of.yearwise, &of.overall) == 0, "the back-test");
-  expect(of.cells == 1 && of.cellwise == 10 && of.yearwise == 10 && of.overall == 10, "the cells compared, and the errors");
+  expect(pardesul_back_test(file.bytes, file.length, 3, PARDESUL_METHOD_DCL,
+                            PARDESUL_BASIS_ESTIMATED, 1, &of.cells, &of.cellwise, &of.yearwise,
+                            &of.overall) == PARDESUL_ACCEPTED,
+         "the back-test");
+  expect(of.cells == 1 && of.cellwise == 10 && of.yearwise == 10 && of.overall == 10,
+         "the cells compared, and the errors");
 }
 
 static void tally(void) {
@@ -200,7 +294,8 @@ static void tally(void) {
   pardesul_tally_add(rbns, ibnr, 0, 1, 1);
   pardesul_tally_add(rbns, ibnr, 39, 1, 1);
   pardesul_tally_add(rbns, ibnr, 38, 1, 1);
-  expect(memcmp(rbns, before, sizeof before) == 0 && ibnr[0] == 165 && ibnr[37] == INT64_MAX, "a tally that stays the same");
+  expect(memcmp(rbns, before, sizeof before) == 0 && ibnr[0] == 165 && ibnr[37] == INT64_MAX,
+         "a tally that stays the same");
 }
 
 static void respond(void) {
@@ -210,12 +305,20 @@ static void respond(void) {
   set_file two = file_of(2, counts_k, paid_k, NULL), refused = too_wide();
   memcpy(input + 6, two.bytes, two.length);
   memset(text, BEFORE, sizeof text);
-  expect(pardesul_respond(input, sizeof input, text, length - 1) == 0 && untouched(text, sizeof text), "an output that is too short for the text");
-  expect(pardesul_respond(input, sizeof input, text, sizeof text) == length && memcmp(text, page, length) == 0, "the text");
+  expect(pardesul_respond(input, sizeof input, text, length - 1) == 0 &&
+             untouched(text, sizeof text),
+         "an output that is too short for the text");
+  expect(pardesul_respond(input, sizeof input, text, sizeof text) == length &&
+             memcmp(text, page, length) == 0,
+         "the text");
   expect(untouched(text + length, sizeof text - length), "the bytes past the text");
-  expect(pardesul_respond(input, 5, text, sizeof text) == 10 && memcmp(text, "refused 1\n", 10) == 0, "a first line that does not end");
+  expect(pardesul_respond(input, 5, text, sizeof text) == 10 &&
+             memcmp(text, "refused 1\n", 10) == 0,
+         "a first line that does not end");
   memcpy(input + 6, refused.bytes, refused.length);
-  expect(pardesul_respond(input, sizeof input, text, sizeof text) == 11 && memcmp(text, "refused 12\n", 11) == 0, "a refused file");
+  expect(pardesul_respond(input, sizeof input, text, sizeof text) == 11 &&
+             memcmp(text, "refused 12\n", 11) == 0,
+         "a refused file");
 }
 
 int main(void) {

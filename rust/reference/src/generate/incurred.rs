@@ -1,7 +1,7 @@
 //! Incurred triangles to go with a set's payments.
 
+use super::patterns::{spread, weights};
 use super::random::Random;
-use super::sets::{spread, weights};
 use crate::records::{cells, place, range, Set};
 
 /// Fills the incurred triangle in one of several ways, each value in its range.

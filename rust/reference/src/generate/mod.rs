@@ -4,6 +4,7 @@
 mod damage;
 mod edges;
 mod incurred;
+mod patterns;
 mod random;
 mod sets;
 
@@ -31,8 +32,8 @@ pub fn case(seed: u64) -> Case {
     let method = any_method(&mut random, &set);
     match random.below(9) {
         0 => damage::unfit_shares(&mut random, &mut set),
-        1 if set.incurred_there => damage::unfit_incurred(&mut random, &mut set),
-        2 if set.incurred_there => damage::unfit_bases(&mut random, &mut set),
+        1 if set.has_incurred => damage::unfit_incurred(&mut random, &mut set),
+        2 if set.has_incurred => damage::unfit_bases(&mut random, &mut set),
         3 | 4 => edges::to_the_edge(&mut random, &mut set, method),
         _ => {}
     }
@@ -69,7 +70,7 @@ fn mostly(random: &mut Random, usual: u64, others: &[u64]) -> u64 {
 
 /// A method that the set allows, and now and then one that it does not.
 fn any_method(random: &mut Random, set: &Set) -> u64 {
-    let allowed = if set.incurred_there || random.one_in(20) {
+    let allowed = if set.has_incurred || random.one_in(20) {
         3
     } else {
         1
@@ -98,10 +99,16 @@ fn any_cut(random: &mut Random, m: u64) -> u64 {
 
 /// The set's file by kind, accident year and delay.
 pub fn file(set: &Set) -> Vec<u8> {
-    let mut bytes = vec![0; file_length(set.m, set.incurred_there)];
-    let (m, there) = (set.m as u64, set.incurred_there);
-    write_set(m, there, &set.counts, &set.paid, &set.incurred, &mut bytes)
-        .expect("a generated set is written");
+    let mut bytes = vec![0; file_length(set.m, set.has_incurred)];
+    write_set(
+        set.m as u64,
+        set.has_incurred,
+        &set.counts,
+        &set.paid,
+        &set.incurred,
+        &mut bytes,
+    )
+    .expect("a generated set is written");
     bytes
 }
 
@@ -117,7 +124,7 @@ pub fn shuffled_file(random: &mut Random, set: &Set) -> Vec<u8> {
 #[derive(Clone, Debug)]
 pub struct WriterCase {
     pub m: u64,
-    pub incurred_there: bool,
+    pub has_incurred: bool,
     pub counts: Values,
     pub paid: Values,
     pub incurred: Values,
@@ -129,7 +136,7 @@ pub struct WriterCase {
 pub fn writer_case(seed: u64) -> WriterCase {
     let mut random = Random::new(seed);
     let set = any_set(&mut random);
-    let (m, needed) = (set.m as u64, file_length(set.m, set.incurred_there));
+    let (m, needed) = (set.m as u64, file_length(set.m, set.has_incurred));
     let mut written = set.clone();
     for kind in 0..3 {
         let mut values = [0; 400];
@@ -145,7 +152,7 @@ pub fn writer_case(seed: u64) -> WriterCase {
     }
     WriterCase {
         m: mostly(&mut random, m, &[0, 1, 21, m + 256, u64::MAX]),
-        incurred_there: set.incurred_there,
+        has_incurred: set.has_incurred,
         counts: written.counts,
         paid: written.paid,
         incurred: written.incurred,

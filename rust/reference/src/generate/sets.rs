@@ -2,9 +2,10 @@
 
 use super::edges::last_accepted;
 use super::incurred::fill_incurred;
+use super::patterns::{spread, weights};
 use super::random::Random;
 use crate::delays::solved;
-use crate::records::{cells, place, range, Set, Values};
+use crate::records::{cells, place, range, Set};
 use crate::shares::estimates;
 
 /// A set of any size and shape, with or without incurred.
@@ -25,49 +26,10 @@ pub fn any_set(random: &mut Random) -> Set {
         9 => even_parts(random, &mut set),
         _ => unpaid_years(random, &mut set),
     }
-    if set.incurred_there {
+    if set.has_incurred {
         fill_incurred(random, &mut set);
     }
     set
-}
-
-/// Weights of delays 0 to m - 1, mostly falling.
-pub fn weights(random: &mut Random, m: usize) -> Vec<i64> {
-    let ratio = random.between(5, 95);
-    let mut weights = vec![1_000_000];
-    for j in 1..m {
-        weights.push(weights[j - 1] * ratio / 100);
-    }
-    match random.below(6) {
-        0 => weights[0] = weights[1],
-        1 => {
-            for weight in &mut weights[1..] {
-                if random.one_in(3) {
-                    *weight = 0;
-                }
-            }
-        }
-        2 => weights[1..].fill(0),
-        _ => {}
-    }
-    weights
-}
-
-/// Rows of about this size, spread by the weights, each cell off by at most `noise` percent.
-pub fn spread(random: &mut Random, kind: u8, weights: &[i64], size: i64, noise: i64) -> Values {
-    let m = weights.len();
-    let total: i128 = weights.iter().map(|&weight| i128::from(weight)).sum();
-    let mut values = [0; 400];
-    for i in 1..=m {
-        let row = i128::from(size) * i128::from(random.between(30, 170));
-        for j in 0..=m - i {
-            let percent = i128::from(random.between(100 - noise, 100 + noise));
-            let value = row * i128::from(weights[j]) / total * percent / 10_000;
-            let (low, high) = (*range(kind).start(), *range(kind).end());
-            values[place(i, j)] = value.clamp(low.into(), high.into()) as i64;
-        }
-    }
-    values
 }
 
 /// Falling patterns with some noise.

@@ -1,4 +1,5 @@
--- The magnitude of a signed 64-bit number, as the machine computes it, and the amount's text by its sign. Assumes nothing.
+-- The magnitude of a signed 64-bit number, as the machine computes it, and the amount's text by its
+-- sign. Assumes nothing.
 use mathlib.Core.Path.{_≡_, refl, sym, ap, _∙_, subst}
 use mathlib.Core.Bool.{true, false}
 use mathlib.Core.List.{_∷_}

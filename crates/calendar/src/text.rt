@@ -1,4 +1,5 @@
-// Numbers as decimal text, written into lent memory from a place on. Each function hands back the place after what it wrote.
+// Numbers as decimal text, written into lent memory from a place on. Each function hands back the
+// place after what it wrote.
 
 ghost use mathlib.Core.Path.{_≡_};
 ghost use mathlib.Core.List.{[], _∷_};

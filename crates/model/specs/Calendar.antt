@@ -66,8 +66,8 @@ lines t zero = []
 lines t (suc n) = lines t n ++ line (digits (suc n)) (at (t .rbns) n) (at (t .ibnr) n)
 
 -- "Calendar year t .. 1 to 2m - 2"; "then T and the totals" (84 is T)
-unfoldable pub page : ℕ → Tally → List ℕ
-page m t = lines t (2 * m - 2) ++ line (84 ∷ []) (sum (2 * m - 2) (at (t .rbns))) (sum (2 * m - 2) (at (t .ibnr)))
+unfoldable pub tallyText : ℕ → Tally → List ℕ
+tallyText m t = lines t (2 * m - 2) ++ line (84 ∷ []) (sum (2 * m - 2) (at (t .rbns))) (sum (2 * m - 2) (at (t .ibnr)))
 
 -- "A refusal prints "refused n" and a newline, nothing else."
 unfoldable pub refusalText : ℕ → List ℕ

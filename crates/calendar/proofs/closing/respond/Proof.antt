@@ -1,4 +1,5 @@
--- `calendar::closing::respond` meets its contract: the answer goes to a text of its own, and from there to the output where that has room. Assumes nothing.
+-- `calendar::closing::respond` meets its contract: the answer goes to a text of its own, and from
+-- there to the output where that has room. Assumes nothing.
 use mathlib.Core.Path.{sym, subst}
 use Prim.Native.Nat.{ℕ, _<_}
 use denote.Ref.{now}

@@ -57,15 +57,15 @@ fn read_all(buf: &mut [u8]) -> Input
 fn write_whole(text: &[u8]) -> Output
     ensures { λ r. ⌜ WholeOf r (now (text .entry)) ⌝ }
 {
-    let mut done = 0;
+    let mut sent = 0;
     let mut calls = CALLS;
-    while done < text.len() {
+    while sent < text.len() {
         if calls == 0 {
             return Output::Failed;
         }
         calls -= 1;
-        let put = libc::write(STDOUT_FILENO, &text[done..]);
-        let n = io::count(put, &text[done..]);
+        let put = libc::write(STDOUT_FILENO, &text[sent..]);
+        let n = io::count(put, &text[sent..]);
         if put < 0 {
             if os::errno() != libc::EINTR {
                 return Output::Failed;
@@ -73,9 +73,9 @@ fn write_whole(text: &[u8]) -> Output
         } else if n == 0 {
             return Output::Failed;
         }
-        done += n;
+        sent += n;
     }
-    Output::Whole(done)
+    Output::Whole(sent)
 }
 
 // Writes the text for the input that was read into the buffer; after a failed read, nothing.

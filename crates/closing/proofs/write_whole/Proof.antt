@@ -8,10 +8,10 @@ use Rattle.closing.proofs.write_whole.Statement.{statement}
 use Rattle.closing.proofs.write_whole.Tie as tie
 
 abbrev Inv-loop : tie.InvT-loop
-Inv-loop text done₀ calls₀ done calls = done ≤ length text
+Inv-loop text sent₀ calls₀ sent calls = sent ≤ length text
 
 abbrev μ-loop : tie.MeasureT-loop
-μ-loop text done₀ calls₀ done calls = calls
+μ-loop text sent₀ calls₀ sent calls = calls
 
 loop-holds : tie.Need-loop-holds Inv-loop μ-loop
 loop-holds c = omega arith
@@ -55,8 +55,8 @@ returns-2 c = tt
 returns-3 : tie.Need-returns-3 Inv-loop μ-loop
 returns-3 c = tt
 
-add-done : tie.Need-add-done Inv-loop μ-loop
-add-done c = omega arith
+add-sent : tie.Need-add-sent Inv-loop μ-loop
+add-sent c = omega arith
 
 loop-less : tie.Need-loop-less Inv-loop μ-loop
 loop-less c = omega arith
@@ -87,7 +87,7 @@ write-whole-spec =
     errno-requires
     returns-2
     returns-3
-    add-done
+    add-sent
     loop-less
     loop-again
     returns-4)

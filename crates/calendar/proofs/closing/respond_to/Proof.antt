@@ -2,6 +2,7 @@
 -- that is long enough for an input to be cut there. Assumes nothing.
 use mathlib.Core.Path.{sym}
 use native.Mathlib.Omega.{arith}
+use denote.Ref.{now}
 use lib.Seq.{length-take-le}
 use Rattle.calendar.specs.Respond.{read-short, read-full}
 use borrow.Author.Needs.{needs}
@@ -15,13 +16,17 @@ answer-requires : tie.Need-answer-requires
 answer-requires c κs = search needs
 
 returns : tie.Need-returns
-returns c = read-short _ _ _ _ _ (c .before .before .before .if1 .taken) (c .answer .ensures)
+returns c =
+    let s = c .before .before .before .before .before in
+    read-short (now (s .args .input)) (now (s .args .out)) (c .answer .last .1 .0) (s .args .n) (c .answer .result) (omega arith) (c .answer .ensures)
 
 answer-requires-2 : tie.Need-answer-requires-2
 answer-requires-2 c κs = search needs
 
 returns-2 : tie.Need-returns-2
-returns-2 c = read-full _ _ _ _ _ (c .before .before .if1 .left) (omega arith) (c .answer2 .ensures)
+returns-2 c =
+    let s = c .before .before .before .before in
+    read-full (now (s .args .input)) (now (s .args .out)) (c .answer2 .last .1 .0) (s .args .n) (c .answer2 .result) (omega arith) (omega arith) (c .answer2 .ensures)
 
 pub respond-to-spec : {M : Type 1} → statement M
 respond-to-spec =

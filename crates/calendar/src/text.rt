@@ -35,8 +35,7 @@ fn magnitude(value: i64) -> u64
     ensures { λ r. ⌜ r ≡ natAbs value ⌝ }
 {
     if value < 0 {
-        let above = value + 1;
-        let less = (-above) as u64;
+        let less = (-1 - value) as u64;
         return less + 1;
     }
     value as u64

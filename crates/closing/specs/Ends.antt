@@ -24,8 +24,8 @@ abbrev pub WholeOf : Output → List ℕ → Type 0
 WholeOf (Out.Whole k) text = k ≡ length text
 WholeOf Out.Failed text = Unit {0}
 
--- n bytes were read into a buffer, and their text was written; where they fill the buffer, it is the
--- text of every input that starts with them
+-- n bytes were read into a buffer, and their text was written; where they fill the buffer, it is
+-- the text of every input that starts with them
 pub record AnsweredTo (r : Output) (buffer : List ℕ) (n : ℕ) : Type 0 where
   pub written : WholeOf r (closingText (take n buffer))
   pub started : length buffer ≤ n → (s : List ℕ) → take (length buffer) s ≡ buffer → WholeOf r (closingText s)

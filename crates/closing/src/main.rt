@@ -1,14 +1,14 @@
-// The program `closing`: reads standard input, and writes the text that `calendar::respond_to` makes
-// of it. Where a read or a write fails, that is told on standard error; after a failed read nothing
-// goes to standard output.
+// The program `closing`: reads standard input, and writes the text that `calendar::respond_to`
+// makes of it. Where a read or a write fails, that is told on standard error; after a failed read
+// nothing goes to standard output.
 use calendar::INPUT_ROOM;
 use calendar::TEXT_ROOM;
 use libc::STDIN_FILENO;
 use libc::STDOUT_FILENO;
 ghost use Rattle.closing.specs.Ends.{Read, WholeOf, Answered};
 
-// A loop has to end: this many calls move the longest input or text a byte at a time, with half of
-// them interrupted by signals.
+// A loop has to end: this many calls move the longest input or text a byte at a time, with about
+// half of them interrupted by signals.
 const CALLS: usize = 20000;
 
 // How reading ended: after so many bytes, at the input's end or where the buffer is full; or at a
@@ -52,8 +52,8 @@ fn read_all(buf: &mut [u8]) -> Input
 }
 
 // Writes the text, or stops at a write that fails or takes nothing. A write may take fewer bytes
-// than it was given, and then the next one goes on after them; one that a signal interrupted is made
-// again.
+// than it was given, and then the next one goes on after them; one that a signal interrupted is
+// made again.
 fn write_whole(text: &[u8]) -> Output
     ensures { λ r. ⌜ WholeOf r (now (text .entry)) ⌝ }
 {

@@ -139,7 +139,7 @@ backTestAnswer m f c method basis =
     let n = backTestRefusal m f c method basis in
     ifAccepted n (backTestOf m (setOf m f) c method basis) (record { refusal = n; cells = 0; cellwise = 0; yearwise = 0; overall = 0 })
 
--- ---- the program `closing` (01, Calendar years): what it prints for the bytes of its standard input
+-- ---- the program `closing` (01, Calendar years): what it prints for its standard input
 
 -- for the file behind the first line: the text of its tally, or of its refusal; 1560 entries are
 -- room for m = 20

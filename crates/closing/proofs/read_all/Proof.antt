@@ -1,5 +1,5 @@
--- `closing::read_all` meets its contract. The invariant: what was read lies within the buffer, whose
--- length stays. Assumes nothing.
+-- `closing::read_all` meets its contract. The invariant: what was read lies within the buffer,
+-- whose length stays. Assumes nothing.
 use mathlib.Core.Path.{_≡_}
 use Prim.Native.Nat.{_≤_}
 use native.Mathlib.Omega.{arith}

@@ -1,5 +1,5 @@
--- `calendar::closing::respond_to` meets its contract: the bytes read are the input, or fill a buffer
--- that is long enough for an input to be cut there. Assumes nothing.
+-- `calendar::closing::respond_to` meets its contract: the bytes read are the input, or fill a
+-- buffer that is long enough for an input to be cut there. Assumes nothing.
 use mathlib.Core.Path.{sym}
 use native.Mathlib.Omega.{arith}
 use denote.Ref.{now}

@@ -11,6 +11,12 @@ ghost use lib.ListN.{length};
 ghost use Rattle.model.specs.Overlay.{overlay};
 ghost use Rattle.model.specs.Calls.{fileText, closingText, respondAnswer, respondOutput, Responded};
 
+// The bytes that `closing` reads at most: one more than the longest legal input has.
+pub const INPUT_ROOM: usize = 10096;
+
+// Room for every text that `closing` prints.
+pub const TEXT_ROOM: usize = 4096;
+
 // Writes the answer to a file: the text of its forecast's tally, or of the refusal.
 fn answer_file(file: &[u8], m: usize, method: u64, basis: u64, text: &mut [u8]) -> usize
     requires { ⌜ 4096 ≤ length (now text) ⌝ }
@@ -42,19 +48,13 @@ fn answer(input: &[u8], text: &mut [u8]) -> usize
 pub fn respond(input: &[u8], out: &mut [u8]) -> usize
     ensures { λ r. ⌜ (r ≡ respondAnswer (now (input .entry)) (now (out .entry))) × (now (out .exit) ≡ respondOutput (now (input .entry)) (now (out .entry))) ⌝ }
 {
-    let mut text = [0u8; 4096];
+    let mut text = [0u8; TEXT_ROOM];
     let n = answer(input, &mut text);
     if out.len() < n {
         return 0;
     }
     write_bytes(out, &text[0..n])
 }
-
-// The bytes that `closing` reads at most: one more than the longest legal input has.
-pub const INPUT_ROOM: usize = 10096;
-
-// Room for every text that `closing` prints.
-pub const TEXT_ROOM: usize = 4096;
 
 // The text for an input of which n bytes were read into the buffer, all that there were or as many
 // as it holds, written to the front of the output; hands back its length.

@@ -5,7 +5,6 @@ use native.Mathlib.Omega.{arith}
 use denote.Ref.{now}
 use lib.Seq.{length-take-le}
 use Rattle.calendar.specs.Respond.{read-short, read-full}
-use borrow.Author.Needs.{needs}
 use Rattle.calendar.proofs.closing.respond_to.Statement.{statement}
 use Rattle.calendar.proofs.closing.respond_to.Tie as tie
 
@@ -13,7 +12,7 @@ slice-aggregate-answer : tie.Need-slice-aggregate-answer
 slice-aggregate-answer c = sym (length-take-le _ _ (omega arith))
 
 answer-requires : tie.Need-answer-requires
-answer-requires c κs = search needs
+answer-requires c κs = omega arith
 
 returns : tie.Need-returns
 returns c =
@@ -21,7 +20,7 @@ returns c =
     read-short (now (s .args .input)) (now (s .args .out)) (c .answer .last .1 .0) (s .args .n) (c .answer .result) (omega arith) (c .answer .ensures)
 
 answer-requires-2 : tie.Need-answer-requires-2
-answer-requires-2 c κs = search needs
+answer-requires-2 c κs = omega arith
 
 returns-2 : tie.Need-returns-2
 returns-2 c =

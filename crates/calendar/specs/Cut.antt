@@ -1,5 +1,6 @@
--- An input cut at 10,096 bytes gets the answer of the whole input: the first line is at most 15 bytes, no set is longer than 10,080, and a longer file is
--- refused whatever follows. Assumes nothing.
+-- An input cut at 10,096 bytes gets the answer of the whole input: the first line is at most 15
+-- bytes, no set is longer than 10,080, and a longer file is refused whatever follows. Assumes
+-- nothing.
 use mathlib.Core.Path.{_≡_, refl, sym, ap, _∙_}
 use mathlib.Core.Bool.{Bool, true, false, cond}
 use mathlib.Core.List.{List, [], _∷_}
@@ -15,7 +16,7 @@ use Rattle.model.specs.ListsLaws.{and-right}
 use Rattle.model.specs.Records.{setLength}
 use Rattle.model.specs.Questions.{q1, q2, ofFile, firstNo}
 use Rattle.model.specs.Calendar.{front, runAt, first, second, third, firstLine, refusalText}
-use Rattle.model.specs.Calls.{callRefusal, forecastRefusal, closingOf, closingText}
+use Rattle.model.specs.Calls.{callRefusal, forecastRefusal, fileText, closingOf, closingText}
 use Rattle.model.specs.declared.Run.{Run}
 use Rattle.model.specs.declared.Run.the-variants.{Number, Wrong}
 use Rattle.model.specs.declared.FirstLine.the-variants.{Asked}
@@ -86,11 +87,11 @@ too-long m f method basis room true e h = rw (e, no-length m f e h)
 too-long m f method basis room false e h = rw e
 
 refused-long : (s : List ℕ) (m method basis a : ℕ) (t : Bool) → q1 m ≡ t → 10080 < length (drop a s) → closingOf s (Asked m method basis a) ≡ refusalText (cond t 2 1)
-unfolding closingOf
+unfolding closingOf fileText
 refused-long s m method basis a true e h = rw (too-long m (drop a s) method basis 1560 true e h)
 refused-long s m method basis a false e h = rw (too-long m (drop a s) method basis 1560 false e h)
 
--- ---- the answer
+-- ---- the answer: 10,096 bytes are a first line, the longest set and one byte more
 
 module _ (n : ℕ) (s : List ℕ) (far : 10096 ≤ n) where
   file-cut : (m method basis a : ℕ) → a ≤ 15 → closingOf (take n s) (Asked m method basis a) ≡ closingOf s (Asked m method basis a)
@@ -119,10 +120,6 @@ module _ (n : ℕ) (s : List ℕ) (far : 10096 ≤ n) where
   first-same Wrong e = refl
   first-same (Number m p) e = second-same m p (runAt s p 32) (omega (arith, run-end s 0 32 m p e)) refl
 
-  pub cut-at : closingText (take n s) ≡ closingText s
+  pub cut-same : closingText (take n s) ≡ closingText s
   unfolding closingText firstLine
-  cut-at = ap (closingOf (take n s)) (line-cut n s (omega arith)) ∙ first-same (runAt s 0 32) refl
-
--- 15 bytes, the longest set and one byte more
-pub cut-same : (s : List ℕ) → closingText (take 10096 s) ≡ closingText s
-cut-same s = cut-at 10096 s (omega arith)
+  cut-same = ap (closingOf (take n s)) (line-cut n s (omega arith)) ∙ first-same (runAt s 0 32) refl

@@ -1,4 +1,5 @@
--- Laws of the decimal digits of a number: their two equations, how many there are, and that they read back as the number. Assumes nothing.
+-- Laws of the decimal digits of a number: their two equations, how many there are, and that they
+-- read back as the number. Assumes nothing.
 use mathlib.Core.Path.{_≡_, refl, sym, ap, _∙_}
 use mathlib.Core.List.{List, [], _∷_, _++_}
 use mathlib.Core.Logic.{_⊎_, inl, inr, ⊎-elim}
@@ -45,7 +46,8 @@ pub digits-large : (n : ℕ) → 10 ≤ n → digits n ≡ digits (n / 10) ++ un
 unfolding digits
 digits-large n h = in-large n n h ∙ ap (λ (t : List ℕ). t ++ units n) (in-fuel n (suc (n / 10)) (n / 10) (omega arith) (omega arith))
 
--- induction along the digits: what holds of one digit, and of n where it holds of n / 10, holds of every number
+-- induction along the digits: what holds of one digit, and of n where it holds of n / 10, holds of
+-- every number
 pub digits-ind : (P : ℕ → Type 0) → ((n : ℕ) → n < 10 → P n) → ((n : ℕ) → 10 ≤ n → P (n / 10) → P n) → (n : ℕ) → P n
 digits-ind P one more n = go (suc n) n (omega arith)
   where

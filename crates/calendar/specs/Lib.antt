@@ -4,7 +4,7 @@ pub mod Printable
 pub mod Written
 pub mod Digits
 pub mod Amount
-pub mod Pages
+pub mod TallyTextLaws
 pub mod Runs
 pub mod Cut
 pub mod ReadBack

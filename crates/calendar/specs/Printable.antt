@@ -1,6 +1,7 @@
--- The page of a tally prints signed 64-bit numbers: where that holds, and that it holds of every output whose entries are small. Assumes nothing.
-use mathlib.Core.Path.{_≡_, refl}
-use mathlib.Core.Bool.{Bool, true, false, cond}
+-- The text of a tally has signed 64-bit numbers: where that holds, and that it holds of every
+-- output whose entries are small. Assumes nothing.
+use mathlib.Core.Path.{_≡_}
+use mathlib.Core.Bool.{true, cond}
 use mathlib.Core.List.{List}
 use Prim.Native.Nat.{ℕ, zero, suc, _-_, _*_, _^_, _≤_, _<_}
 use native.Mathlib.Omega.{arith}
@@ -9,13 +10,14 @@ use lib.IntN.{ℤ, pos, natAbs, _+ℤ_, +ℤ-idl, +ℤ-idr}
 use borrow.Author.Tests.{eqb-true, ne-eqb}
 use Rattle.integers.specs.Order.{natAbs-+ℤ}
 use Rattle.integers.specs.Sums.{sum, sum-cong, sum-nothing, sum-natAbs, sum-swap}
+use Rattle.model.specs.Tests.{by-test}
 use Rattle.model.specs.Lists.{at}
 use Rattle.model.specs.ListsLaws.{getD-tabulate}
 use Rattle.model.specs.Calendar.{fits64, calendarYear, tallyOf}
 use Rattle.model.specs.declared.Tally.{Tally}
 use Rattle.calendar.specs.YearSums.{cells, rbnsAt, ibnrAt, yearSum, years, Small, few-cells, small-rbns, small-ibnr, below-fits, year-sum-small, none-lost}
 
--- every number that the page of m prints is a signed 64-bit number, and so is each running total
+-- every number in the text of a tally of m is a signed 64-bit number, and so is each running total
 pub record Printable (m : ℕ) (t : Tally) : Type 0 where
   pub first : (k : ℕ) → k < 2 * m - 2 → fits64 (at (t .rbns) k) ≡ true
   pub second : (k : ℕ) → k < 2 * m - 2 → fits64 (at (t .ibnr) k) ≡ true
@@ -33,14 +35,13 @@ counted n y x = sum n (λ k. cond (eqb y (suc k)) x (pos 0))
 once : (n y : ℕ) (x : ℤ) → natAbs (counted n y x) ≤ natAbs x
 unfolding sum
 once zero y x = omega arith
-once (suc n) y x = by-test (eqb y (suc n)) refl (once n y x)
-  where
-    by-test : (t : Bool) → eqb y (suc n) ≡ t → natAbs (counted n y x) ≤ natAbs x → natAbs (counted n y x +ℤ cond t x (pos 0)) ≤ natAbs x
-    by-test true e h =
-        let q = eqb-true y (suc n) e in
-        let none : counted n y x ≡ pos 0 = sum-nothing n (λ k l. rw (ne-eqb y (suc k) (λ p. omega arith))) in
-        rw (none, +ℤ-idl x) (omega arith)
-    by-test false e h = rw (+ℤ-idr (counted n y x)) h
+once (suc n) y x =
+    by-test (eqb y (suc n))
+    (λ e.
+    let q = eqb-true y (suc n) e in
+    let none : counted n y x ≡ pos 0 = sum-nothing n (λ k l. rw (ne-eqb y (suc k) (λ p. omega arith))) in
+    rw (e, none, +ℤ-idl x) (omega arith))
+    (λ e. rw (e, +ℤ-idr (counted n y x)) (once n y x))
 
 module _ (m : ℕ) (f : ℕ → ℤ) (n b : ℕ) (small : (c : ℕ) → c < n → natAbs (f c) ≤ b) where
   total-small : (y : ℕ) → natAbs (sum y (λ k. yearSum m f n (suc k))) ≤ n * b

@@ -1,38 +1,31 @@
--- The answer to a file, and laws of the answer to an input. Assumes nothing.
+-- Laws of the answer to a file and of the answer to an input. Assumes nothing.
 use mathlib.Core.Path.{_≡_, refl, sym, _∙_, ap, ap₂, subst}
-use mathlib.Core.Bool.{Bool, true, false, cond}
-use mathlib.Core.List.{List, [], _++_, append-nil}
+use mathlib.Core.List.{List}
 use Prim.Native.Nat.{ℕ, _+_, _-_, _≤_, _<_}
 use native.Mathlib.Nat.{zero-add, sub-zero}
 use native.Mathlib.Omega.{arith}
-use borrow.Author.Tests.{ne-eqb, le-leb, lt-leb, leb-true}
-use lib.Dec.{leb}
+use borrow.Author.Tests.{ne-eqb, le-leb, lt-leb}
 use lib.ListN.{length, take, drop, length-append, length-drop}
-use lib.Seq.{take-append-seam}
+use lib.Seq.{take-all, take-append-seam}
 use Rattle.model.specs.Overlay.{overlay}
-use Rattle.model.specs.Calendar.{runAt, first, second, third, firstLine, refusalOf, tallyOf, page, refusalText}
-use Rattle.model.specs.Calls.{ifAccepted, zeros, forecastRefusal, forecastOutput, closingOf, closingText, respondAnswer, respondOutput}
+use Rattle.model.specs.Calendar.{runAt, first, second, third, firstLine, refusalOf, tallyOf, tallyText, refusalText}
+use Rattle.model.specs.Calls.{zeros, forecastRefusal, forecastOutput, fileText, closingOf, closingText, respondAnswer, respondOutput, Responded}
 use Rattle.model.specs.declared.Run.{Run}
 use Rattle.model.specs.declared.Run.the-variants.{Number, Wrong}
 use Rattle.model.specs.declared.FirstLine.the-variants.{Asked, Refused}
 use Rattle.triangles.specs.Order.{SameRecords}
 use Rattle.triangles.specs.CallsOrder.{forecast-refusal-order, output-order}
 use Rattle.calendar.specs.Runs.{run-within}
+use Rattle.calendar.specs.Cut.{cut-same}
 use Rattle.calendar.specs.Written.{Written, written-whole}
-
--- what is printed for a file: 1560 entries are room for m = 20
-unfoldable pub fileText : ℕ → List ℕ → ℕ → ℕ → List ℕ
-fileText m f method basis =
-    let n = forecastRefusal m f method basis 1560 in
-    ifAccepted n (page m (tallyOf m (forecastOutput m f method basis (zeros 1560)))) (refusalText n)
 
 pub text-refused : (m : ℕ) (f : List ℕ) (method basis n : ℕ) → (n ≡ 0 → ⊥) → forecastRefusal m f method basis 1560 ≡ n → fileText m f method basis ≡ refusalText n
 unfolding fileText
 text-refused m f method basis n o e = rw (e, ne-eqb n 0 o)
 
-pub text-page : (m : ℕ) (f : List ℕ) (method basis : ℕ) → forecastRefusal m f method basis 1560 ≡ 0 → fileText m f method basis ≡ page m (tallyOf m (forecastOutput m f method basis (zeros 1560)))
+pub text-accepted : (m : ℕ) (f : List ℕ) (method basis : ℕ) → forecastRefusal m f method basis 1560 ≡ 0 → fileText m f method basis ≡ tallyText m (tallyOf m (forecastOutput m f method basis (zeros 1560)))
 unfolding fileText
-text-page m f method basis e = rw e
+text-accepted m f method basis e = rw e
 
 -- the order of the records changes nothing
 pub text-order : (f g : List ℕ) → SameRecords f g → (m method basis : ℕ) → fileText m f method basis ≡ fileText m g method basis
@@ -40,11 +33,8 @@ unfolding fileText
 text-order f g same m method basis = rw (forecast-refusal-order f g same m method basis 1560, output-order f g same m method basis (zeros 1560))
 
 -- ---- parts of a list
-take-whole : (n : ℕ) (xs : List ℕ) → length xs ≡ n → take n xs ≡ xs
-take-whole n xs e = subst (λ (ys : List ℕ). take n ys ≡ xs) (append-nil xs) (subst (λ (k : ℕ). take k (xs ++ []) ≡ xs) e (take-append-seam xs []))
-
 pub file-part : (a : ℕ) (s : List ℕ) → take (length s - a) (drop a s) ≡ drop a s
-file-part a s = take-whole (length s - a) (drop a s) (length-drop a s)
+file-part a s = take-all (length s - a) (drop a s) (omega (arith, length-drop a s))
 
 module _ (before t : List ℕ) where
   written-front : take (length t) (overlay before 0 t) ≡ t
@@ -79,7 +69,7 @@ module _ (s : List ℕ) where
 
   -- the answer in each case
   pub asked-text : (m method basis a : ℕ) → firstLine s ≡ Asked m method basis a → closingText s ≡ fileText m (drop a s) method basis
-  unfolding closingText closingOf fileText
+  unfolding closingText closingOf
   asked-text m method basis a e = ap (closingOf s) e
 
   pub wrong-text : firstLine s ≡ Refused → closingText s ≡ refusalText 1
@@ -97,14 +87,6 @@ module _ (s : List ℕ) where
     unfolding respondAnswer respondOutput
     too-short h = (rw (lt-leb (length (closingText s)) (length before) h), rw (lt-leb (length (closingText s)) (length before) h))
 
-    pub answer-within : respondAnswer s before ≤ length before
-    unfolding respondAnswer
-    answer-within = by-room (leb (length (closingText s)) (length before)) refl
-      where
-        by-room : (t : Bool) → leb (length (closingText s)) (length before) ≡ t → cond t (length (closingText s)) 0 ≤ length before
-        by-room true e = leb-true (length (closingText s)) (length before) e
-        by-room false e = omega arith
-
     -- the text goes from the front of a longer list to the front of the output
     pub copied : (filled whole after : List ℕ) (n r : ℕ) → whole ≡ overlay filled 0 (closingText s) → n ≡ length (closingText s) → n ≤ length before
         → Written before 0 (take (n - 0) (drop 0 whole)) after r → (r ≡ respondAnswer s before) × (after ≡ respondOutput s before)
@@ -113,3 +95,31 @@ module _ (s : List ℕ) where
         let z = written-whole (subst (λ (xs : List ℕ). Written before 0 xs after r) t d) in
         let l = long-enough (subst (λ (k : ℕ). k ≤ length before) e h) in
         (z .1 ∙ sym (l .0), z .0 ∙ sym (l .1))
+
+-- ---- n bytes that were read into a buffer
+
+module _ (buffer before after : List ℕ) (n r : ℕ) where
+  abbrev text : List ℕ
+  text = closingText (take n buffer)
+
+  pub bytes-read : (after ≡ overlay before 0 text) × (r ≡ length text)
+      → (length buffer ≤ n → (s : List ℕ) → take (length buffer) s ≡ buffer → text ≡ closingText s) → Responded buffer n before after r
+  unfolding overlay
+  bytes-read w f = record { result = w .1; output = rw zero-add at (w .0); started = f }
+
+  -- they do not fill it
+  pub read-short : n < length buffer → (after ≡ overlay before 0 text) × (r ≡ length text) → Responded buffer n before after r
+  read-short h w = bytes-read w (λ l. absurd (omega arith))
+
+  -- they fill it, and it is as long as an input may be cut
+  pub read-full : length buffer ≤ n → 10096 ≤ length buffer → (after ≡ overlay before 0 (closingText buffer)) × (r ≡ length (closingText buffer)) → Responded buffer n before after r
+  read-full h far w =
+      let e : take n buffer ≡ buffer = take-all n buffer h in
+      bytes-read (rw e w) (λ l s b. ap closingText (e ∙ sym b) ∙ cut-same (length buffer) s far)
+
+  -- the text lies within the output, at its front
+  pub text-within : Responded buffer n before after r → r ≤ length after
+  text-within d = omega (arith, ap length (d .output), length-append text (drop (length text) before), d .result)
+
+  pub text-front : Responded buffer n before after r → take r after ≡ text
+  text-front d = ap₂ take (d .result) (d .output) ∙ take-append-seam text (drop (length text) before)

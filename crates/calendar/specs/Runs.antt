@@ -11,6 +11,7 @@ use lib.Dec.{leb, eqb}
 use lib.ListN.{length, getD, take, drop, drop-of-length-le, List·getD-eq-default}
 use lib.Seq.{drop-cons, slice, slice-cons, slice-empty, take-add, drop-at, length-take-le}
 use borrow.Author.Tests.{le-leb, lt-leb, leb-true, eq-eqb, ne-eqb, eqb-true}
+use Rattle.model.specs.Tests.{by-test}
 use Rattle.model.specs.ListsLaws.{and-left, and-right}
 use Rattle.model.specs.Calendar.{front, valueFrom, runAt, first, second, third, firstLine}
 use Rattle.model.specs.declared.Run.{Run}
@@ -56,21 +57,16 @@ pub front-take : (k : ℕ) (s : List ℕ) → front (take k s) ≡ take k (front
 unfolding front
 front-take zero s = refl
 front-take (suc k) [] = refl
-front-take (suc k) (b ∷ s) = by-test (isDigit b) refl (front-take k s)
-  where
-    by-test : (t : Bool) → isDigit b ≡ t → front (take k s) ≡ take k (front s) → front (b ∷ take k s) ≡ take (suc k) (front (b ∷ s))
-    by-test true e h = rw (front-yes b (take k s) e, front-yes b s e, h)
-    by-test false e h = rw (front-no b (take k s) e, front-no b s e)
+front-take (suc k) (b ∷ s) =
+    by-test (isDigit b) (λ e. rw (front-yes b (take k s) e, front-yes b s e, front-take k s))
+    (λ e. rw (front-no b (take k s) e, front-no b s e))
 
 -- the digits are the start of s, as many as there are
 front-start : (s : List ℕ) → take (length (front s)) s ≡ front s
 unfolding front
 front-start [] = refl
-front-start (b ∷ s) = by-test (isDigit b) refl (front-start s)
-  where
-    by-test : (t : Bool) → isDigit b ≡ t → take (length (front s)) s ≡ front s → take (length (front (b ∷ s))) (b ∷ s) ≡ front (b ∷ s)
-    by-test true e h = rw (front-yes b s e) (ap (λ (l : List ℕ). b ∷ l) h)
-    by-test false e h = rw (front-no b s e)
+front-start (b ∷ s) =
+    by-test (isDigit b) (λ e. rw (front-yes b s e) (ap (λ (l : List ℕ). b ∷ l) (front-start s))) (λ e. rw (front-no b s e))
 
 -- the digits at a place, as the part of s up to their end
 front-part : (s : List ℕ) (a : ℕ) → a ≤ length s → slice a (a + length (front (drop a s))) s ≡ front (drop a s)

@@ -1,4 +1,5 @@
--- The tally of an output whose entries are small is the plain sum of each calendar year's cells: none is turned away. Assumes nothing.
+-- The tally of an output whose entries are small is the plain sum of each calendar year's cells:
+-- none is turned away. Assumes nothing.
 use mathlib.Core.Path.{_≡_, refl, sym, _∙_, ap}
 use mathlib.Core.Bool.{Bool, true, false, cond}
 use mathlib.Core.List.{List}
@@ -42,7 +43,8 @@ years m f n = tabulate 38 (λ k. yearSum m f n (suc k))
 abbrev pub plainSums : ℕ → List ℤ → ℕ → Tally
 plainSums m out n = record { rbns = years m (rbnsAt out) n; ibnr = years m (ibnrAt out) n }
 
--- every entry of the output is at most 2 × 10^15 (a cell of an accepted set is at most 1.6 × 10^15 + 1)
+-- every entry of the output is at most 2 × 10^15 (a cell of an accepted set is at most 1.6 × 10^15
+-- + 1)
 abbrev pub Small : ℕ → List ℤ → Type 0
 Small m out = (e : ℕ) → e < size m → natAbs (at out e) ≤ 2 * 10 ^ 15
 

@@ -1,18 +1,23 @@
 // The whole answer of `closing` to its input.
 use crate::first_line::read_first_line;
-use crate::page::write_bytes;
-use crate::page::write_page;
-use crate::page::write_refusal;
 use crate::tally::tally_of;
+use crate::tally_text::write_bytes;
+use crate::tally_text::write_refusal;
+use crate::tally_text::write_tally_text;
 use model::FirstLine;
 ghost use mathlib.Core.Path.{_≡_};
 ghost use Prim.Native.Nat.{_≤_};
 ghost use lib.ListN.{length};
 ghost use Rattle.model.specs.Overlay.{overlay};
-ghost use Rattle.model.specs.Calls.{closingText, respondAnswer, respondOutput};
-ghost use Rattle.calendar.specs.Respond.{fileText};
+ghost use Rattle.model.specs.Calls.{fileText, closingText, respondAnswer, respondOutput, Responded};
 
-// Writes the answer to a file: the page of its forecast, or the refusal.
+// The bytes that `closing` reads at most: one more than the longest legal input has.
+pub const INPUT_ROOM: usize = 10096;
+
+// Room for every text that `closing` prints.
+pub const TEXT_ROOM: usize = 4096;
+
+// Writes the answer to a file: the text of its forecast's tally, or of the refusal.
 fn answer_file(file: &[u8], m: usize, method: u64, basis: u64, text: &mut [u8]) -> usize
     requires { ⌜ 4096 ≤ length (now text) ⌝ }
     ensures { λ r. ⌜ (now (text .exit) ≡ overlay (now (text .entry)) 0 (fileText m (now (file .entry)) method basis)) × (r ≡ length (fileText m (now (file .entry)) method basis)) ⌝ }
@@ -23,7 +28,7 @@ fn answer_file(file: &[u8], m: usize, method: u64, basis: u64, text: &mut [u8]) 
         return write_refusal(text, answer.refusal);
     }
     let t = tally_of(&entries, m);
-    write_page(text, m, t)
+    write_tally_text(text, m, t)
 }
 
 // Writes the answer to an input: its first line and the file behind it.
@@ -37,15 +42,28 @@ fn answer(input: &[u8], text: &mut [u8]) -> usize
     answer_file(&input[at..], m as usize, method, basis, text)
 }
 
-// The text that `closing` prints for its whole standard input, written to the front of the output; hands back its length. Where the output is too short for
-// the text, it stays as it was and the answer is 0. No text is longer than 2,573 bytes.
+// The text that `closing` prints for its whole standard input, written to the front of the output;
+// hands back its length. Where the output is too short for the text, it stays as it was and the
+// answer is 0. No text is longer than 2,573 bytes.
 pub fn respond(input: &[u8], out: &mut [u8]) -> usize
     ensures { λ r. ⌜ (r ≡ respondAnswer (now (input .entry)) (now (out .entry))) × (now (out .exit) ≡ respondOutput (now (input .entry)) (now (out .entry))) ⌝ }
 {
-    let mut text = [0u8; 4096];
+    let mut text = [0u8; TEXT_ROOM];
     let n = answer(input, &mut text);
     if out.len() < n {
         return 0;
     }
     write_bytes(out, &text[0..n])
+}
+
+// The text for an input of which n bytes were read into the buffer, all that there were or as many
+// as it holds, written to the front of the output; hands back its length.
+pub fn respond_to(input: &[u8; INPUT_ROOM], n: usize, out: &mut [u8; TEXT_ROOM]) -> usize
+    ensures { λ r. ⌜ Responded (now (input .entry)) n (now (out .entry)) (now (out .exit)) r ⌝ }
+{
+    let read: &[u8] = input;
+    if n < read.len() {
+        return answer(&read[..n], out);
+    }
+    answer(read, out)
 }

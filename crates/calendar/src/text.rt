@@ -1,4 +1,5 @@
-// Numbers as decimal text, written into lent memory from a place on. Each function hands back the place after what it wrote.
+// Numbers as decimal text, written into lent memory from a place on. Each function hands back the
+// place after what it wrote.
 
 ghost use mathlib.Core.Path.{_≡_};
 ghost use mathlib.Core.List.{[], _∷_};
@@ -34,8 +35,7 @@ fn magnitude(value: i64) -> u64
     ensures { λ r. ⌜ r ≡ natAbs value ⌝ }
 {
     if value < 0 {
-        let above = value + 1;
-        let less = (-above) as u64;
+        let less = (-1 - value) as u64;
         return less + 1;
     }
     value as u64

@@ -42,36 +42,40 @@ tallyTo m out (suc n) = tallyAdd (tallyTo m out n) (calendarYear m n) (at out (2
 unfoldable pub tallyOf : ℕ → List ℤ → Tally
 tallyOf m out = tallyTo m out (m * (2 * m - 1))
 
--- the decimal digits of n in ASCII, most significant first, with no leading zero: at most `fuel` of them
+-- ---- the text, in ASCII
+
+-- the decimal digits of n, highest first, with no leading zero: at most `fuel` of them
 unfoldable pub digitsIn : ℕ → ℕ → List ℕ
 digitsIn zero n = []
 digitsIn (suc fuel) n = elim (ltb n 10) [ true ↦ (48 + n) ∷ [] | false ↦ digitsIn fuel (n / 10) ++ ((48 + n % 10) ∷ []) ]
 
--- the same, all of them: there are at most n + 1
+-- all of them: there are at most n + 1
 unfoldable pub digits : ℕ → List ℕ
 digits n = digitsIn (suc n) n
 
--- "a minus sign before a negative amount"
+-- an amount: its digits, with a minus where it is below zero (45 is the minus)
 unfoldable pub amount : ℤ → List ℕ
 amount (pos n) = digits n
 amount (negsuc n) = 45 ∷ digits (suc n)
 
--- "One space stands between fields, .. a newline after each line.": RBNS, IBNR and their sum, after the line's name
+-- a line: its name, x, y and what they come to, parted by spaces (32), and a newline (10)
 unfoldable pub line : List ℕ → ℤ → ℤ → List ℕ
 line name x y = name ++ (32 ∷ []) ++ amount x ++ (32 ∷ []) ++ amount y ++ (32 ∷ []) ++ amount (x +ℤ y) ++ (10 ∷ [])
 
--- "It prints for each t: t, RBNS, IBNR, their sum": the lines of years 1 to n
+-- the lines of calendar years 1 to n, each named by its year
 unfoldable pub lines : Tally → ℕ → List ℕ
 lines t zero = []
 lines t (suc n) = lines t n ++ line (digits (suc n)) (at (t .rbns) n) (at (t .ibnr) n)
 
--- "Calendar year t .. 1 to 2m - 2"; "then T and the totals" (84 is T)
-unfoldable pub page : ℕ → Tally → List ℕ
-page m t = lines t (2 * m - 2) ++ line (84 ∷ []) (sum (2 * m - 2) (at (t .rbns))) (sum (2 * m - 2) (at (t .ibnr)))
+-- the text of a tally: a line for each of the 2m - 2 calendar years, and one named T (84) for all
+unfoldable pub tallyText : ℕ → Tally → List ℕ
+tallyText m t = lines t (2 * m - 2) ++ line (84 ∷ []) (sum (2 * m - 2) (at (t .rbns))) (sum (2 * m - 2) (at (t .ibnr)))
 
--- "A refusal prints "refused n" and a newline, nothing else."
+-- the text of the refusal n: "refused ", its digits and a newline
 unfoldable pub refusalText : ℕ → List ℕ
 refusalText n = (114 ∷ 101 ∷ 102 ∷ 117 ∷ 115 ∷ 101 ∷ 100 ∷ 32 ∷ []) ++ digits n ++ (10 ∷ [])
+
+-- ---- the first line
 
 -- the decimal digits that s starts with
 unfoldable pub front : List ℕ → List ℕ
@@ -83,32 +87,34 @@ unfoldable pub valueFrom : ℕ → List ℕ → ℕ
 valueFrom v [] = v
 valueFrom v (b ∷ s) = valueFrom (v * 10 + (b - 48)) s
 
--- "runs of one to four decimal digits": at place a of s, and then the byte end; its number and the place after that byte
+-- a run of one to four digits at place a of s with the byte `end` behind it: its number, and the
+-- place after that byte
 unfoldable pub runAt : List ℕ → ℕ → ℕ → Run
 runAt s a end =
     let d = front (drop a s) in
     cond (leb 1 (length d) && leb (length d) 4 && eqb (getD s (a + length d) 0) end) (Number (valueFrom 0 d) (a + length d + 1)) Wrong
 
--- "The first line is three runs .., one space between each, ended by a newline; any other first line is 1."
+-- what is asked, by the third run, which a newline ends
 unfoldable pub third : ℕ → ℕ → Run → FirstLine
 third m method Wrong = Refused
 third m method (Number basis a) = Asked m method basis a
 
--- the second run, ended by a space
+-- by the second run, which a space ends
 unfoldable pub second : List ℕ → ℕ → Run → FirstLine
 second s m Wrong = Refused
 second s m (Number method a) = third m method (runAt s a 10)
 
--- the first run, ended by a space
+-- by the first run, which a space ends
 unfoldable pub first : List ℕ → Run → FirstLine
 first s Wrong = Refused
 first s (Number m a) = second s m (runAt s a 32)
 
--- what the first line asks
+-- what the first line asks: m, method, basis, and where the file starts; refused unless it is three
+-- runs and nothing else
 unfoldable pub firstLine : List ℕ → FirstLine
 firstLine s = first s (runAt s 0 32)
 
--- "any other first line is 1": the refusal number of each case, 0 for none
+-- the refusal number of each case, 0 for none
 unfoldable pub refusalOf : FirstLine → ℕ
 refusalOf (Asked m method basis a) = 0
 refusalOf Refused = 1

@@ -1,5 +1,5 @@
 -- The whole answer of each public call, refusals included: what it hands back, and what the lent memory holds afterwards.
-use Prim.Native.Nat.{ℕ, _-_}
+use Prim.Native.Nat.{ℕ, _-_, _≤_}
 use mathlib.Core.Path.{_≡_}
 use mathlib.Core.Bool.{Bool, true, false, cond}
 use mathlib.Core.List.{List, [], _∷_, _++_}
@@ -12,7 +12,7 @@ use Rattle.model.specs.Delays.{delaysOf}
 use Rattle.model.specs.RowBases.{leftovers}
 use Rattle.model.specs.Cells.{outputFrom}
 use Rattle.model.specs.PaidReserve.{NearReserves}
-use Rattle.model.specs.Calendar.{tallyOf, page, refusalText, firstLine, refusalOf}
+use Rattle.model.specs.Calendar.{tallyOf, tallyText, refusalText, firstLine, refusalOf}
 use Rattle.model.specs.ClaimCosts.{claimCosts, noClaimCosts}
 use Rattle.model.specs.BackTest.{cutTo, gap, cellNumber, cellwise, yearwise, overall}
 use Rattle.model.specs.Questions.{Question, firstNo, ofFile, ofShares, ofDelays, ofForecast, q1, q4, q5Writer, q6, q7, q7Writer, q8}
@@ -171,23 +171,35 @@ backTestAnswer m f c method basis =
     let n = backTestRefusal m f c method basis in
     ifAccepted n (backTestOf m (setOf m f) c method basis) (refusedBackTest n)
 
--- ---- the program `closing`: the text that it prints, for the bytes of its standard input
+-- ---- the program `closing` (01, Calendar years): what it prints for its standard input
 
--- 1560 entries, room for m = 20
+-- for the file behind the first line: the text of its tally, or of its refusal; 1560 entries are
+-- room for m = 20
+unfoldable pub fileText : ℕ → List ℕ → ℕ → ℕ → List ℕ
+fileText m f method basis =
+    let n = forecastRefusal m f method basis 1560 in
+    ifAccepted n (tallyText m (tallyOf m (forecastOutput m f method basis (zeros 1560)))) (refusalText n)
+
+-- for the input s, whose first line asks this
 unfoldable pub closingOf : List ℕ → FirstLine → List ℕ
 closingOf s Refused = refusalText (refusalOf Refused)
-closingOf s (Asked m method basis a) =
-    let f = drop a s in
-    let n = forecastRefusal m f method basis 1560 in
-    ifAccepted n (page m (tallyOf m (forecastOutput m f method basis (zeros 1560)))) (refusalText n)
+closingOf s (Asked m method basis a) = fileText m (drop a s) method basis
 
 unfoldable pub closingText : List ℕ → List ℕ
 closingText s = closingOf s (firstLine s)
 
--- the call behind the program, `respond`: the text's length, or 0 where the output is too short for the text
+-- `respond`: the text's length, or 0 where the output is too short for the text
 unfoldable pub respondAnswer : List ℕ → List ℕ → ℕ
 respondAnswer s before = let t = closingText s in cond (leb (length t) (length before)) (length t) 0
 
 -- the output afterwards: the text and then what stood there, or, too short, as it was
 unfoldable pub respondOutput : List ℕ → List ℕ → List ℕ
 respondOutput s before = let t = closingText s in cond (leb (length t) (length before)) (t ++ drop (length t) before) before
+
+-- `respond_to`, where n bytes were read into a buffer: their text's length, and the text in the
+-- output, which always has room. Bytes that fill the buffer may be only the start of the input:
+-- every input that starts with them has the same text.
+pub record Responded (buffer : List ℕ) (n : ℕ) (before after : List ℕ) (r : ℕ) : Type 0 where
+  pub result : r ≡ length (closingText (take n buffer))
+  pub output : after ≡ closingText (take n buffer) ++ drop (length (closingText (take n buffer))) before
+  pub started : length buffer ≤ n → (s : List ℕ) → take (length buffer) s ≡ buffer → closingText (take n buffer) ≡ closingText s

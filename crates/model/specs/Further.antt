@@ -1,5 +1,5 @@
 -- Examples of our own, for what document 01's examples leave open. The values are those of an independent calculation with big numbers.
-use Prim.Native.Nat.{ℕ, _-_, _^_}
+use Prim.Native.Nat.{ℕ, _+_, _-_, _^_}
 use mathlib.Core.Path.{_≡_, refl}
 use mathlib.Core.Bool.{Bool, true, false, _&&_}
 use mathlib.Core.List.{List, [], _∷_, _++_}
@@ -164,7 +164,46 @@ pub given : readAnswer 2 K ≡ record { refusal = 0; set = givenSet 2 true (pos 
 unfolding opened-further
 given = refl
 
--- "2 0 1" with five digits in the first run: "refused 1"
-pub five-digits : closingText (48 ∷ 48 ∷ 48 ∷ 48 ∷ asked) ≡ 114 ∷ 101 ∷ 102 ∷ 117 ∷ 115 ∷ 101 ∷ 100 ∷ 32 ∷ 49 ∷ 10 ∷ []
+-- ---- what `closing` prints for a refusal
+
+-- the text "refused ", the digits d and a newline
+abbrev told : List ℕ → List ℕ
+told d = (114 ∷ 101 ∷ 102 ∷ 117 ∷ 115 ∷ 101 ∷ 100 ∷ 32 ∷ []) ++ d ++ (10 ∷ [])
+
+-- a first line with one digit for each number, and a file
+abbrev input : ℕ → ℕ → ℕ → List ℕ → List ℕ
+input m method basis f = (48 + m) ∷ 32 ∷ (48 + method) ∷ 32 ∷ (48 + basis) ∷ 10 ∷ f
+
+-- five digits in the first run
+pub five-digits : closingText (48 ∷ 48 ∷ 48 ∷ 48 ∷ asked) ≡ told (49 ∷ [])
 unfolding opened-further
 five-digits = refl
+
+-- no input at all, "2 0 1" without its newline, and "2  0 1" with two spaces
+pub no-first-line :
+    (closingText [] ≡ told (49 ∷ [])) × (closingText (50 ∷ 32 ∷ 48 ∷ 32 ∷ 49 ∷ []) ≡ told (49 ∷ []))
+    × (closingText (50 ∷ 32 ∷ 32 ∷ 48 ∷ 32 ∷ 49 ∷ 10 ∷ K) ≡ told (49 ∷ []))
+unfolding opened-further
+no-first-line = (refl, refl, refl)
+
+-- m = 21, and m = 1
+pub wrong-size : (closingText (50 ∷ 49 ∷ 32 ∷ 48 ∷ 32 ∷ 49 ∷ 10 ∷ K) ≡ told (49 ∷ [])) × (closingText (input 1 0 1 K) ≡ told (49 ∷ []))
+unfolding opened-further
+wrong-size = (refl, refl)
+
+-- one byte too many, and K as a set of m = 3
+pub wrong-length : (closingText (asked ++ (0 ∷ [])) ≡ told (50 ∷ [])) × (closingText (input 3 0 1 K) ≡ told (50 ∷ []))
+unfolding opened-further
+wrong-length = (refl, refl)
+
+-- method 3, and basis 2
+pub wrong-method : (closingText (input 2 3 1 K) ≡ told (54 ∷ [])) × (closingText (input 2 0 2 K) ≡ told (54 ∷ []))
+unfolding opened-further
+wrong-method = (refl, refl)
+
+-- a row without counts is 9; a delay of -8,016,000,000 is 12
+pub refused-sets :
+    (closingText (input 2 0 1 (two 0 80 20 0 ++ two 1 600 400 660)) ≡ told (57 ∷ []))
+    × (closingText (input 2 0 1 (two 0 25 75 50 ++ two 1 751 249 750)) ≡ told (49 ∷ 50 ∷ []))
+unfolding opened-further
+refused-sets = (refl, refl)

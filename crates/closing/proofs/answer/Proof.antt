@@ -1,47 +1,57 @@
--- `closing::answer` meets its contract: what `respond` answers lies within its buffer. Assumes nothing.
-use mathlib.Core.Path.{sym}
+-- `closing::answer` meets its contract: what is written is the front of the output of `respond_to`.
+-- Assumes nothing.
+use mathlib.Core.Path.{sym, subst}
 use Prim.Native.Nat.{_≤_}
 use native.Mathlib.Omega.{arith}
-use denote.Ref.{now}
 use lib.ListN.{length}
-use Rattle.calendar.specs.Respond.{answer-within}
-use borrow.Author.Needs.{needs}
 use lib.Seq.{length-take-le}
+use Rattle.calendar.specs.Respond.{text-within, text-front}
+use Rattle.closing.specs.Ends.{WholeOf}
+use borrow.Author.Needs.{needs}
 use Rattle.closing.proofs.answer.Statement.{statement}
 use Rattle.closing.proofs.answer.Tie as tie
 
-within : (c : tie.After-respond) → c .respond .result ≤ length (c .respond .last .1 .0)
-within c = rw (c .respond .ensures .0) (omega (arith, answer-within (now (c .before .before .before .before .args .input)) (c .before .before .buffer .result), c .respond .kept .1 .0))
+within : (c : tie.After-respond-to) → c .respond-to .result ≤ length (c .respond-to .last .1 .1 .0)
+within c = text-within _ _ _ _ _ (c .respond-to .ensures)
 
-buffer-requires : tie.Need-buffer-requires
-buffer-requires c κs = search needs
+enum-known-read : tie.Need-enum-known-read
+enum-known-read c = search needs
 
-slice-aggregate-respond : tie.Need-slice-aggregate-respond
-slice-aggregate-respond c = search needs
-
-respond-requires : tie.Need-respond-requires
-respond-requires c κs = search needs
-
-array-share-prefix-out : tie.Need-array-share-prefix-out
-array-share-prefix-out c = within (c .before)
-
-slice-aggregate-write-all : tie.Need-slice-aggregate-write-all
-slice-aggregate-write-all c = sym (length-take-le (c .before .before .respond .result) (c .before .before .respond .last .1 .0) (within (c .before .before)))
-
-write-all-requires : tie.Need-write-all-requires
-write-all-requires c κs = search needs
+enum-told : tie.Need-enum-told
+enum-told c = search needs
 
 returns : tie.Need-returns
-returns c = search needs
+returns c = rw (c .enum-told .given .1)
+
+respond-to-requires : tie.Need-respond-to-requires
+respond-to-requires c κs = search needs
+
+array-share-prefix-text : tie.Need-array-share-prefix-text
+array-share-prefix-text c = omega (arith, within c)
+
+slice-aggregate-write-whole : tie.Need-slice-aggregate-write-whole
+slice-aggregate-write-whole c = sym (length-take-le _ _ (omega (arith, within (c .before))))
+
+write-whole-requires : tie.Need-write-whole-requires
+write-whole-requires c κs = search needs
+
+returns-2 : tie.Need-returns-2
+returns-2 c =
+    let p = c .before .before in
+    let d = p .respond-to .ensures in
+    let w = subst (WholeOf (c .write-whole .result)) (text-front _ _ _ _ _ d) (c .write-whole .ensures) in
+    rw (p .before .before .before .read .given .1)
+    (record { written = w; started = λ l s e. subst (WholeOf (c .write-whole .result)) (d .started l s e) w })
 
 pub answer-spec : {M : Type 1} → statement M
 answer-spec =
     tie.close
     (tie.spec
-    buffer-requires
-    slice-aggregate-respond
-    respond-requires
-    array-share-prefix-out
-    slice-aggregate-write-all
-    write-all-requires
-    returns)
+    enum-known-read
+    enum-told
+    returns
+    respond-to-requires
+    array-share-prefix-text
+    slice-aggregate-write-whole
+    write-whole-requires
+    returns-2)

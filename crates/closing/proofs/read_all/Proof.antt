@@ -1,4 +1,5 @@
--- `closing::read_all` meets its contract. The invariant: what was read lies within the buffer, whose length stays. Assumes nothing.
+-- `closing::read_all` meets its contract. The invariant: what was read lies within the buffer,
+-- whose length stays. Assumes nothing.
 use mathlib.Core.Path.{_≡_}
 use Prim.Native.Nat.{_≤_}
 use native.Mathlib.Omega.{arith}
@@ -8,10 +9,10 @@ use Rattle.closing.proofs.read_all.Statement.{statement}
 use Rattle.closing.proofs.read_all.Tie as tie
 
 abbrev Inv-loop : tie.InvT-loop
-Inv-loop buf₀ done₀ reads₀ buf done reads = (done ≤ length buf) × (length buf ≡ length buf₀)
+Inv-loop buf₀ done₀ calls₀ buf done calls = (done ≤ length buf) × (length buf ≡ length buf₀)
 
 abbrev μ-loop : tie.MeasureT-loop
-μ-loop buf₀ done₀ reads₀ buf done reads = reads
+μ-loop buf₀ done₀ calls₀ buf done calls = calls
 
 loop-holds : tie.Need-loop-holds Inv-loop μ-loop
 loop-holds c = omega arith
@@ -20,10 +21,10 @@ same-length : tie.Need-same-length Inv-loop μ-loop
 same-length c = omega arith
 
 returns : tie.Need-returns Inv-loop μ-loop
-returns c = tt
+returns c = record { within = tt; same = omega arith }
 
-sub-reads : tie.Need-sub-reads Inv-loop μ-loop
-sub-reads c = omega arith
+sub-calls : tie.Need-sub-calls Inv-loop μ-loop
+sub-calls c = omega arith
 
 sub-read : tie.Need-sub-read Inv-loop μ-loop
 sub-read c = omega arith
@@ -56,13 +57,13 @@ same-length-2 : tie.Need-same-length-2 Inv-loop μ-loop
 same-length-2 c = omega arith
 
 returns-2 : tie.Need-returns-2 Inv-loop μ-loop
-returns-2 c = tt
+returns-2 c = record { within = tt; same = omega arith }
 
 same-length-3 : tie.Need-same-length-3 Inv-loop μ-loop
 same-length-3 c = omega arith
 
 returns-3 : tie.Need-returns-3 Inv-loop μ-loop
-returns-3 c = omega arith
+returns-3 c = record { within = omega arith; same = omega arith }
 
 add-done : tie.Need-add-done Inv-loop μ-loop
 add-done c = omega arith
@@ -77,7 +78,7 @@ same-length-4 : tie.Need-same-length-4 Inv-loop μ-loop
 same-length-4 c = omega arith
 
 returns-4 : tie.Need-returns-4 Inv-loop μ-loop
-returns-4 c = omega arith
+returns-4 c = record { within = omega arith; same = omega arith }
 
 pub read-all-spec : {M : Type 1} → statement M
 read-all-spec =
@@ -88,7 +89,7 @@ read-all-spec =
     loop-holds
     same-length
     returns
-    sub-reads
+    sub-calls
     sub-read
     part-read-start
     part-read-end

@@ -1,4 +1,5 @@
--- `calendar::closing::answer` meets its contract: the first line is refused, or asks for the answer to the file behind it. Assumes nothing.
+-- `calendar::closing::answer` meets its contract: the first line is refused, or asks for the answer
+-- to the file behind it. Assumes nothing.
 use mathlib.Core.Path.{_≡_, sym, _∙_}
 use Prim.Native.Nat.{_≤_}
 use native.Mathlib.Nat.{le-trans}
@@ -7,7 +8,7 @@ use denote.Ref.{now}
 use lib.ListN.{length}
 use Rattle.model.specs.Calendar.{firstLine}
 use Rattle.model.specs.declared.FirstLine.the-variants.{Asked}
-use Rattle.calendar.specs.Pages.{refusal-short}
+use Rattle.calendar.specs.TallyTextLaws.{refusal-short}
 use Rattle.calendar.specs.Respond.{file-part, file-inside, asked-text, wrong-text}
 use borrow.Author.Needs.{needs}
 use Rattle.calendar.proofs.closing.answer.Statement.{statement}

@@ -1,4 +1,5 @@
--- `calendar::closing::answer_file` meets its contract: the refusal, or the page of the forecast's tally. Assumes nothing.
+-- `calendar::closing::answer_file` meets its contract: the refusal, or the text of the tally of the
+-- forecast. Assumes nothing.
 use mathlib.Core.Path.{_≡_, sym, _∙_, ap, subst}
 use mathlib.Core.List.{List}
 use Prim.Native.Nat.{ℕ, _≤_}
@@ -7,14 +8,14 @@ use native.Mathlib.Omega.{arith}
 use denote.Ref.{now}
 use lib.IntN.{ℤ}
 use Rattle.model.specs.Cells.{size}
-use Rattle.model.specs.Calendar.{tallyOf, page}
-use Rattle.model.specs.Calls.{zeros, forecastRefusal, forecastOutput}
+use Rattle.model.specs.Calendar.{tallyOf, tallyText}
+use Rattle.model.specs.Calls.{zeros, forecastRefusal, forecastOutput, fileText}
 use Rattle.model.specs.CallsLaws.{forecast-refusal}
 use Rattle.forecast.specs.SmallEntries.{file-small}
 use Rattle.calendar.specs.YearSums.{Small}
 use Rattle.calendar.specs.Printable.{Printable, small-printable}
-use Rattle.calendar.specs.Pages.{page-length, refusal-short}
-use Rattle.calendar.specs.Respond.{fileText, text-refused, text-page}
+use Rattle.calendar.specs.TallyTextLaws.{tally-text-length, refusal-short}
+use Rattle.calendar.specs.Respond.{text-refused, text-accepted}
 use borrow.Author.Needs.{needs}
 use Rattle.calendar.proofs.closing.answer_file.Statement.{statement}
 use Rattle.calendar.proofs.closing.answer_file.Tie as tie
@@ -42,8 +43,8 @@ module _ (c : tie.After-forecast) (z : c .forecast .result .refusal ≡ 0) where
   printable : Printable m (tallyOf m (c .forecast .last .1 .1 .1 .1 .0))
   printable = small-printable m (c .forecast .last .1 .1 .1 .1 .0) (small .1) (small .3)
 
-  text-is : fileText m (now (start c .args .file)) (start c .args .method) (start c .args .basis) ≡ page m (tallyOf m (c .forecast .last .1 .1 .1 .1 .0))
-  text-is = text-page m (now (start c .args .file)) (start c .args .method) (start c .args .basis) (sym (refusal-is c) ∙ z) ∙ ap (λ (out : List ℤ). page m (tallyOf m out)) (sym (output-is c))
+  text-is : fileText m (now (start c .args .file)) (start c .args .method) (start c .args .basis) ≡ tallyText m (tallyOf m (c .forecast .last .1 .1 .1 .1 .0))
+  text-is = text-accepted m (now (start c .args .file)) (start c .args .method) (start c .args .basis) (sym (refusal-is c) ∙ z) ∙ ap (λ (out : List ℤ). tallyText m (tallyOf m out)) (sym (output-is c))
 
 slice-aggregate-forecast : tie.Need-slice-aggregate-forecast
 slice-aggregate-forecast c = search needs
@@ -76,14 +77,14 @@ tally-of-requires c κs =
     let k = w .forecast .kept in
     (s .0, s .1, omega (arith, s .2, k .1 .1 .1 .1 .0))
 
-write-page-requires : tie.Need-write-page-requires
-write-page-requires c κs =
+write-tally-text-requires : tie.Need-write-tally-text-requires
+write-tally-text-requires c κs =
     let t = c .before in
     let e = t .before in
     let w = e .before .before .before .before in
     let z = e .before .if1 .left in
     let s = small w z in
-    rw (t .tally-of .ensures) ((s .0, s .1), (printable w z, omega (arith, page-length (m w z) _ (s .1) (printable w z), start w .pre)))
+    rw (t .tally-of .ensures) ((s .0, s .1), (printable w z, omega (arith, tally-text-length (m w z) _ (s .1) (printable w z), start w .pre)))
 
 same-length-2 : tie.Need-same-length-2
 same-length-2 c = search needs
@@ -94,7 +95,7 @@ returns-2 c =
     let t = p .before .before in
     let e = t .before in
     let w = e .before .before .before .before in
-    rw (text-is w (e .before .if1 .left)) (rw (t .tally-of .ensures) at (p .write-page .ensures))
+    rw (text-is w (e .before .if1 .left)) (rw (t .tally-of .ensures) at (p .write-tally-text .ensures))
 
 pub answer-file-spec : {M : Type 1} → statement M
 answer-file-spec =
@@ -107,6 +108,6 @@ answer-file-spec =
     returns
     slice-aggregate-tally-of
     tally-of-requires
-    write-page-requires
+    write-tally-text-requires
     same-length-2
     returns-2)

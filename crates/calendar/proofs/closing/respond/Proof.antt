@@ -1,6 +1,8 @@
--- `calendar::closing::respond` meets its contract: the answer goes to a text of its own, and from there to the output where that has room. Assumes nothing.
+-- `calendar::closing::respond` meets its contract: the answer goes to a text of its own, and from
+-- there to the output where that has room. Assumes nothing.
 use mathlib.Core.Path.{sym, subst}
 use Prim.Native.Nat.{ℕ, _<_}
+use native.Mathlib.Omega.{arith}
 use denote.Ref.{now}
 use lib.ListN.{length}
 use Rattle.model.specs.Calls.{closingText}
@@ -13,7 +15,7 @@ slice-aggregate-answer : tie.Need-slice-aggregate-answer
 slice-aggregate-answer c = search needs
 
 answer-requires : tie.Need-answer-requires
-answer-requires c κs = search needs
+answer-requires c κs = omega arith
 
 returns : tie.Need-returns
 returns c =

@@ -1,4 +1,5 @@
--- `calendar::first_line::digits_end` meets its contract. The invariant: every byte passed is a digit. Assumes nothing.
+-- `calendar::first_line::digits_end` meets its contract. The invariant: every byte passed is a
+-- digit. Assumes nothing.
 use mathlib.Core.Path.{_≡_}
 use Prim.Native.Nat.{_+_, _-_, _≤_}
 use native.Mathlib.Omega.{arith}

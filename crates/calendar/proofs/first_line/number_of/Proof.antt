@@ -1,4 +1,5 @@
--- `calendar::first_line::number_of` meets its contract. The invariant: the digits left, read after v, say the number of them all, and v is small. Assumes nothing.
+-- `calendar::first_line::number_of` meets its contract. The invariant: the digits left, read after
+-- v, say the number of them all, and v is small. Assumes nothing.
 use mathlib.Core.Path.{_≡_, refl, sym, _∙_}
 use Prim.Native.Nat.{_+_, _-_, _*_, _^_, _≤_}
 use native.Mathlib.Omega.{arith}

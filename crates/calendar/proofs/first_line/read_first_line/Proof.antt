@@ -1,4 +1,5 @@
--- `calendar::first_line::read_first_line` meets its contract: each return is a case of `firstLine`. Assumes nothing.
+-- `calendar::first_line::read_first_line` meets its contract: each return is a case of `firstLine`.
+-- Assumes nothing.
 use mathlib.Core.Path.{_≡_, sym, _∙_}
 use native.Mathlib.Omega.{arith}
 use denote.Ref.{now}

@@ -1,4 +1,5 @@
--- `calendar::first_line::run_at` meets its contract: each return is a case of `runAt`. Assumes nothing.
+-- `calendar::first_line::run_at` meets its contract: each return is a case of `runAt`. Assumes
+-- nothing.
 use mathlib.Core.Path.{_∙_, ap}
 use Prim.Native.Nat.{ℕ, _+_}
 use native.Mathlib.Omega.{arith}

@@ -1,4 +1,5 @@
--- `calendar::tally::calendar_year` meets its contract: a cell's row is below m and its delay below 2m - 1. Assumes nothing.
+-- `calendar::tally::calendar_year` meets its contract: a cell's row is below m and its delay below
+-- 2m - 1. Assumes nothing.
 use Prim.Native.Nat.{_-_, _*_, _/_, _<_}
 use native.Mathlib.Nat.{div-lt-iff-lt-mul, mod-lt}
 use native.Mathlib.Omega.{arith}

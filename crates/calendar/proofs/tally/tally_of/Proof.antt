@@ -1,4 +1,5 @@
--- `calendar::tally::tally_of` meets its contract. The invariant: t is the tally of the first n cells. Assumes nothing.
+-- `calendar::tally::tally_of` meets its contract. The invariant: t is the tally of the first n
+-- cells. Assumes nothing.
 use borrow.Author.Needs.{needs, sfits-of}
 use mathlib.Core.Path.{_≡_, refl, sym}
 use Prim.Native.Nat.{_-_, _*_, _≤_}

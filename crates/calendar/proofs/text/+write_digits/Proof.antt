@@ -1,4 +1,5 @@
--- `calendar::text::write_digits` meets its contract: one digit, or those of n / 10 and then the last. The measure is n. Assumes nothing.
+-- `calendar::text::write_digits` meets its contract: one digit, or those of n / 10 and then the
+-- last. The measure is n. Assumes nothing.
 use native.Mathlib.Omega.{arith}
 use borrow.Author.Needs.{needs}
 use Rattle.calendar.specs.Digits.{digits-small, digits-large, length-small, length-large}

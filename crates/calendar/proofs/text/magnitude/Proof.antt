@@ -1,14 +1,11 @@
 -- `calendar::text::magnitude` meets its contract, the least number included. Assumes nothing.
 use borrow.Author.Needs.{needs}
-use Rattle.calendar.proofs.Signs.{Negated, negated, not-negated}
+use Rattle.calendar.proofs.Signs.{Turned, turned-round, not-negated}
 use Rattle.calendar.proofs.text.magnitude.Statement.{statement}
 use Rattle.calendar.proofs.text.magnitude.Tie as tie
 
-below : (c : tie.Then1) → Negated (c .before .args .value)
-below c = negated (c .before .args .value) (c .before .fits .value) (c .if1 .taken)
-
-add-above : tie.Need-add-above
-add-above c = below c .up
+below : (c : tie.Then1) → Turned (c .before .args .value)
+below c = turned-round (c .before .args .value) (c .before .fits .value) (c .if1 .taken)
 
 sub-less : tie.Need-sub-less
 sub-less c = below c .down
@@ -30,4 +27,4 @@ returns-2 c = search needs
 
 pub magnitude-spec : {M : Type 1} → statement M
 magnitude-spec =
-    tie.close (tie.spec add-above sub-less cast-less add-result returns cast-result returns-2)
+    tie.close (tie.spec sub-less cast-less add-result returns cast-result returns-2)

@@ -1,4 +1,5 @@
--- `calendar::text::write_amount` meets its contract: a sign and the digits of the magnitude, or the digits alone. Assumes nothing.
+-- `calendar::text::write_amount` meets its contract: a sign and the digits of the magnitude, or the
+-- digits alone. Assumes nothing.
 use mathlib.Core.Path.{_≡_, ap}
 use mathlib.Core.List.{_∷_}
 use native.Mathlib.Omega.{arith}

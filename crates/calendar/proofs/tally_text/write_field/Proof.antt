@@ -1,11 +1,12 @@
--- `calendar::page::write_field` meets its contract: a space, then the amount. Assumes nothing.
+-- `calendar::tally_text::write_field` meets its contract: a space, then the amount. Assumes
+-- nothing.
 use native.Mathlib.Omega.{arith}
 use mir.Facts.{toZ-ofZ}
 use Rattle.calendar.specs.Written.{written-then}
-use Rattle.calendar.specs.Pages.{field, field-size}
+use Rattle.calendar.specs.TallyTextLaws.{field, field-size}
 use borrow.Author.Needs.{needs}
-use Rattle.calendar.proofs.page.write_field.Statement.{statement}
-use Rattle.calendar.proofs.page.write_field.Tie as tie
+use Rattle.calendar.proofs.tally_text.write_field.Statement.{statement}
+use Rattle.calendar.proofs.tally_text.write_field.Tie as tie
 
 put-requires : tie.Need-put-requires
 put-requires c κs = omega (arith, field-size (c .before .before .args .value))

@@ -1,4 +1,5 @@
--- Laws of the page: its parts in the order in which they are written, and its length. Assumes nothing.
+-- Laws of the text of a tally: its parts in the order in which they are written, and its length.
+-- Assumes nothing.
 use mathlib.Core.Path.{_≡_, refl, sym, ap, _∙_}
 use mathlib.Core.Bool.{true}
 use mathlib.Core.List.{List, [], _∷_, _++_, append-assoc}
@@ -11,7 +12,7 @@ use lib.IntN.{ℤ, _+ℤ_}
 use lib.ListN.{length, length-append}
 use Rattle.integers.specs.Sums.{sum}
 use Rattle.model.specs.Lists.{at}
-use Rattle.model.specs.Calendar.{fits64, digits, amount, line, lines, page, refusalText}
+use Rattle.model.specs.Calendar.{fits64, digits, amount, line, lines, tallyText, refusalText}
 use Rattle.model.specs.declared.Tally.{Tally}
 use Rattle.calendar.specs.Digits.{digits-length}
 use Rattle.calendar.specs.Amount.{amount-length}
@@ -46,9 +47,9 @@ lines-next t k = rw (add-one k, line-is (digits (suc k)) (at (t .rbns) k) (at (t
 abbrev pub totals : ℕ → Tally → List ℕ
 totals n t = (84 ∷ []) ++ sums (sum n (at (t .rbns))) (sum n (at (t .ibnr)))
 
-pub page-is : (m : ℕ) (t : Tally) → page m t ≡ lines t (2 * m - 2) ++ totals (2 * m - 2) t
-unfolding page
-page-is m t = rw (line-is (84 ∷ []) (sum (2 * m - 2) (at (t .rbns))) (sum (2 * m - 2) (at (t .ibnr))))
+pub tally-text-is : (m : ℕ) (t : Tally) → tallyText m t ≡ lines t (2 * m - 2) ++ totals (2 * m - 2) t
+unfolding tallyText
+tally-text-is m t = rw (line-is (84 ∷ []) (sum (2 * m - 2) (at (t .rbns))) (sum (2 * m - 2) (at (t .ibnr))))
 
 -- ---- their lengths
 
@@ -63,8 +64,8 @@ sums-size x y = simp length-append
 next-size : (t : Tally) (k : ℕ) → length (lines t (k + 1)) ≡ length (lines t k) + (length (digits (k + 1)) + length (sums (at (t .rbns) k) (at (t .ibnr) k)))
 next-size t k = ap length (lines-next t k) ∙ simp length-append
 
-pub page-size : (m : ℕ) (t : Tally) → length (page m t) ≡ length (lines t (2 * m - 2)) + (1 + length (sums (sum (2 * m - 2) (at (t .rbns))) (sum (2 * m - 2) (at (t .ibnr)))))
-page-size m t = ap length (page-is m t) ∙ simp length-append (omega arith)
+pub tally-text-size : (m : ℕ) (t : Tally) → length (tallyText m t) ≡ length (lines t (2 * m - 2)) + (1 + length (sums (sum (2 * m - 2) (at (t .rbns))) (sum (2 * m - 2) (at (t .ibnr)))))
+tally-text-size m t = ap length (tally-text-is m t) ∙ simp length-append (omega arith)
 
 -- the next line has room where n lines have it
 pub next-room : (t : Tally) (k n : ℕ) → k < n → length (lines t k) + (length (digits (k + 1)) + length (sums (at (t .rbns) k) (at (t .ibnr) k))) ≤ length (lines t n)
@@ -99,8 +100,8 @@ module _ (m : ℕ) (t : Tally) (few : m ≤ 20) (p : Printable m t) where
         sums-length (at (t .rbns) n) (at (t .ibnr) n) (p .first n (omega arith)) (p .second n (omega arith)) (p .both n (omega arith)),
       ))
 
-  pub page-length : length (page m t) ≤ 2573
-  page-length =
+  pub tally-text-length : length (tallyText m t) ≤ 2573
+  tally-text-length =
       let n = 2 * m - 2 in
       let s = sums-length (sum n (at (t .rbns))) (sum n (at (t .ibnr))) (p .first-total n (omega arith)) (p .second-total n (omega arith)) (p .total) in
-      omega (arith, page-size m t, lines-length n (omega arith))
+      omega (arith, tally-text-size m t, lines-length n (omega arith))

@@ -1,4 +1,4 @@
-// The text that `closing` prints: the page of a tally, or a refusal.
+// The text that `closing` prints: of a tally, or of a refusal.
 use crate::text::put;
 use crate::text::write_amount;
 use crate::text::write_digits;
@@ -11,10 +11,10 @@ ghost use lib.ListN.{length};
 ghost use Rattle.integers.specs.Sums.{sum};
 ghost use Rattle.model.specs.Lists.{at};
 ghost use Rattle.model.specs.Overlay.{overlay};
-ghost use Rattle.model.specs.Calendar.{fits64, lines, page, refusalText};
+ghost use Rattle.model.specs.Calendar.{fits64, lines, tallyText, refusalText};
 ghost use Rattle.calendar.specs.Written.{Written};
 ghost use Rattle.calendar.specs.Printable.{Printable};
-ghost use Rattle.calendar.specs.Pages.{field, sums};
+ghost use Rattle.calendar.specs.TallyTextLaws.{field, sums};
 
 // Writes a space and an amount.
 fn write_field(out: &mut [u8], at: usize, value: i64) -> usize
@@ -73,12 +73,12 @@ fn total(xs: [i64; 38], n: usize) -> i64
     s
 }
 
-// Writes the page of a tally at the start of the output, and hands back its length.
-pub fn write_page(out: &mut [u8], m: usize, t: Tally) -> usize
+// Writes the text of a tally at the start of the output, and hands back its length.
+pub fn write_tally_text(out: &mut [u8], m: usize, t: Tally) -> usize
     requires { ⌜ (2 ≤ m) × (m ≤ 20) ⌝ }
     requires { ⌜ Printable m t ⌝ }
-    requires { ⌜ length (page m t) ≤ length (now out) ⌝ }
-    ensures { λ r. ⌜ (now (out .exit) ≡ overlay (now (out .entry)) 0 (page m t)) × (r ≡ length (page m t)) ⌝ }
+    requires { ⌜ length (tallyText m t) ≤ length (now out) ⌝ }
+    ensures { λ r. ⌜ (now (out .exit) ≡ overlay (now (out .entry)) 0 (tallyText m t)) × (r ≡ length (tallyText m t)) ⌝ }
 {
     let years = 2 * m - 2;
     let end = write_lines(out, years, t);

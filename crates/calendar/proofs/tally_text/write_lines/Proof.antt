@@ -1,4 +1,5 @@
--- `calendar::page::write_lines` meets its contract. The invariant: the lines of the first k years are written, and nothing else. Assumes nothing.
+-- `calendar::tally_text::write_lines` meets its contract. The invariant: the lines of the first k
+-- years are written, and nothing else. Assumes nothing.
 use mathlib.Core.Path.{_≡_}
 use Prim.Native.Nat.{_-_, _≤_}
 use native.Mathlib.Omega.{arith}
@@ -6,9 +7,9 @@ use borrow.Author.Needs.{sfits-of}
 use mir.Facts.{toZ-ofZ}
 use Rattle.model.specs.Calendar.{lines}
 use Rattle.calendar.specs.Written.{Written, written-none, written-then, written-length}
-use Rattle.calendar.specs.Pages.{lines-none, lines-next, next-room}
-use Rattle.calendar.proofs.page.write_lines.Statement.{statement}
-use Rattle.calendar.proofs.page.write_lines.Tie as tie
+use Rattle.calendar.specs.TallyTextLaws.{lines-none, lines-next, next-room}
+use Rattle.calendar.proofs.tally_text.write_lines.Statement.{statement}
+use Rattle.calendar.proofs.tally_text.write_lines.Tie as tie
 
 abbrev Inv-loop : tie.InvT-loop
 Inv-loop out₀ n t end₀ k₀ out end k = (k ≤ n) × Written out₀ 0 (lines t k) out end

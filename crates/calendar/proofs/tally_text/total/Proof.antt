@@ -1,4 +1,5 @@
--- `calendar::page::total` meets its contract. The invariant: s is the total of the first k years. Assumes nothing.
+-- `calendar::tally_text::total` meets its contract. The invariant: s is the total of the first k
+-- years. Assumes nothing.
 use mathlib.Core.Path.{_≡_, sym}
 use Prim.Native.Nat.{suc, _-_, _≤_}
 use native.Mathlib.Numerals.{add-one}
@@ -10,8 +11,8 @@ use mir.Facts.{toZ-ofZ}
 use Rattle.integers.specs.Sums.{sum, sum-zero, sum-suc}
 use Rattle.model.specs.Lists.{at}
 use Rattle.model.proofs.Laws.{fits-so}
-use Rattle.calendar.proofs.page.total.Statement.{statement}
-use Rattle.calendar.proofs.page.total.Tie as tie
+use Rattle.calendar.proofs.tally_text.total.Statement.{statement}
+use Rattle.calendar.proofs.tally_text.total.Tie as tie
 
 abbrev Inv-loop : tie.InvT-loop
 Inv-loop n xs s₀ k₀ s k = (k ≤ n) × (toZ w64 s ≡ sum k (at xs))

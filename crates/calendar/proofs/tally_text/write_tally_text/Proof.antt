@@ -1,12 +1,13 @@
--- `calendar::page::write_page` meets its contract: the lines, T and the totals. Assumes nothing.
+-- `calendar::tally_text::write_tally_text` meets its contract: the lines, T and the totals. Assumes
+-- nothing.
 use mathlib.Core.List.{[], _∷_}
 use native.Mathlib.Omega.{arith}
 use mir.Facts.{toZ-ofZ}
 use Rattle.calendar.specs.Written.{Written, written-then, written-whole}
-use Rattle.calendar.specs.Pages.{page-is, page-size}
+use Rattle.calendar.specs.TallyTextLaws.{tally-text-is, tally-text-size}
 use borrow.Author.Needs.{needs, sfits-of}
-use Rattle.calendar.proofs.page.write_page.Statement.{statement}
-use Rattle.calendar.proofs.page.write_page.Tie as tie
+use Rattle.calendar.proofs.tally_text.write_tally_text.Statement.{statement}
+use Rattle.calendar.proofs.tally_text.write_tally_text.Tie as tie
 
 -- T stands behind the lines
 name : (c : tie.After-put)
@@ -23,7 +24,7 @@ sub-years c = search needs
 write-lines-requires : tie.Need-write-lines-requires
 write-lines-requires c κs =
     let s = c .before .before in
-    (omega arith, (s .pre .1 .0 .both, omega (arith, page-size (s .args .m) (s .args .t))))
+    (omega arith, (s .pre .1 .0 .both, omega (arith, tally-text-size (s .args .m) (s .args .t))))
 
 total-requires : tie.Need-total-requires
 total-requires c κs =
@@ -39,7 +40,7 @@ put-requires : tie.Need-put-requires
 put-requires c κs =
     let w = c .before .before .before .before .before .before .before in
     let s = w .before .before .before in
-    omega (arith, page-size (s .args .m) (s .args .t), w .write-lines .ensures .end)
+    omega (arith, tally-text-size (s .args .m) (s .args .t), w .write-lines .ensures .end)
 
 write-sums-requires : tie.Need-write-sums-requires
 write-sums-requires c κs =
@@ -49,7 +50,7 @@ write-sums-requires c κs =
     let w = x .before .before .before .before .before in
     let s = w .before .before .before in
     rw (toZ-ofZ (sfits-of (x .total .ok)), toZ-ofZ (sfits-of (y .total2 .ok)), x .total .ensures, y .total2 .ensures)
-    (s .pre .1 .0 .total, omega (arith, page-size (s .args .m) (s .args .t), w .write-lines .ensures .end, p .put .ensures .end))
+    (s .pre .1 .0 .total, omega (arith, tally-text-size (s .args .m) (s .args .t), w .write-lines .ensures .end, p .put .ensures .end))
 
 same-length : tie.Need-same-length
 same-length c = search needs
@@ -61,14 +62,14 @@ returns c =
     let x = y .before in
     let w = x .before .before .before .before .before in
     let s = w .before .before .before in
-    rw (page-is (s .args .m) (s .args .t))
+    rw (tally-text-is (s .args .m) (s .args .t))
     (written-whole
     (written-then (w .write-lines .ensures)
     (written-then (name p)
     (rw (toZ-ofZ (sfits-of (x .total .ok)), toZ-ofZ (sfits-of (y .total2 .ok)), x .total .ensures, y .total2 .ensures) at (c .before .before .write-sums .ensures)))))
 
-pub write-page-spec : {M : Type 1} → statement M
-write-page-spec =
+pub write-tally-text-spec : {M : Type 1} → statement M
+write-tally-text-spec =
     tie.close
     (tie.spec
     mul-years

@@ -1,4 +1,5 @@
--- `calendar::page::write_bytes` meets its contract. The invariant: the first k bytes of s are written, and nothing else. Assumes nothing.
+-- `calendar::tally_text::write_bytes` meets its contract. The invariant: the first k bytes of s are
+-- written, and nothing else. Assumes nothing.
 use mathlib.Core.Path.{_≡_}
 use mathlib.Core.List.{[], _∷_, _++_}
 use Prim.Native.Nat.{_+_, _-_, _≤_}
@@ -8,8 +9,8 @@ use denote.Ref.{now}
 use lib.ListN.{length, take, getD}
 use lib.Seq.{take-suc, take-all}
 use Rattle.calendar.specs.Written.{Written, written-none, written-byte, written-then, written-length}
-use Rattle.calendar.proofs.page.write_bytes.Statement.{statement}
-use Rattle.calendar.proofs.page.write_bytes.Tie as tie
+use Rattle.calendar.proofs.tally_text.write_bytes.Statement.{statement}
+use Rattle.calendar.proofs.tally_text.write_bytes.Tie as tie
 
 abbrev Inv-loop : tie.InvT-loop
 Inv-loop out₀ s k₀ out k = (k ≤ length s) × Written out₀ 0 (take k s) out k

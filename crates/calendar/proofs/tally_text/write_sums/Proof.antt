@@ -1,4 +1,5 @@
--- `calendar::page::write_sums` meets its contract: three fields and a newline, one after the other. Assumes nothing.
+-- `calendar::tally_text::write_sums` meets its contract: three fields and a newline, one after the
+-- other. Assumes nothing.
 use mathlib.Core.List.{_++_}
 use native.Mathlib.Omega.{arith}
 use lib.IntN.{_+ℤ_}
@@ -8,11 +9,11 @@ use mir.Syntax.{w64}
 use mir.Val.{SFits}
 use mir.Facts.{toZ-ofZ}
 use Rattle.calendar.specs.Written.{Written, written-then}
-use Rattle.calendar.specs.Pages.{field, sums, sums-size}
+use Rattle.calendar.specs.TallyTextLaws.{field, sums, sums-size}
 use Rattle.model.proofs.Laws.{fits-so}
 use borrow.Author.Needs.{needs}
-use Rattle.calendar.proofs.page.write_sums.Statement.{statement}
-use Rattle.calendar.proofs.page.write_sums.Tie as tie
+use Rattle.calendar.proofs.tally_text.write_sums.Statement.{statement}
+use Rattle.calendar.proofs.tally_text.write_sums.Tie as tie
 
 both-fits : (s : tie.Start) → SFits w64 (s .args .rbns +ℤ s .args .ibnr)
 both-fits s = fits-so (s .args .rbns +ℤ s .args .ibnr) (s .pre .0)

@@ -1,11 +1,12 @@
--- `calendar::page::write_refusal` meets its contract: the word, the number, a newline. Assumes nothing.
+-- `calendar::tally_text::write_refusal` meets its contract: the word, the number, a newline.
+-- Assumes nothing.
 use native.Mathlib.Omega.{arith}
 use Rattle.model.specs.Calendar.{refusalText}
 use Rattle.calendar.specs.Written.{written-then, written-whole}
-use Rattle.calendar.specs.Pages.{refusal-size}
+use Rattle.calendar.specs.TallyTextLaws.{refusal-size}
 use borrow.Author.Needs.{needs}
-use Rattle.calendar.proofs.page.write_refusal.Statement.{statement}
-use Rattle.calendar.proofs.page.write_refusal.Tie as tie
+use Rattle.calendar.proofs.tally_text.write_refusal.Statement.{statement}
+use Rattle.calendar.proofs.tally_text.write_refusal.Tie as tie
 
 slice-aggregate-write-bytes : tie.Need-slice-aggregate-write-bytes
 slice-aggregate-write-bytes c = search needs

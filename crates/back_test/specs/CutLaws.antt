@@ -1,4 +1,5 @@
--- Laws of the cut: what is made of its first rows is all of it, and a valid set cut to a smaller size is valid. Assumes nothing.
+-- Laws of the cut: what is made of its first rows is all of it, and a valid set cut to a smaller
+-- size is valid. Assumes nothing.
 use mathlib.Core.Path.{_≡_, sym}
 use mathlib.Core.Bool.{Bool, true, _&&_, _||_, not, cond}
 use mathlib.Core.List.{List}

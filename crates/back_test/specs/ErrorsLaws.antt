@@ -1,4 +1,5 @@
--- Laws of the sums of errors: their sizes, and that they depend on the gaps of the n × n cells alone. Assumes nothing.
+-- Laws of the sums of errors: their sizes, and that they depend on the gaps of the n × n cells
+-- alone. Assumes nothing.
 use mathlib.Core.Path.{_≡_, refl, sym, _∙_, ap, ap₂}
 use mathlib.Core.Bool.{cond}
 use mathlib.Core.List.{List}

@@ -1,4 +1,5 @@
--- Laws of the gaps: how many cells are compared, where they are read, their size, and that the list holds document 01's gaps. Assumes nothing.
+-- Laws of the gaps: how many cells are compared, where they are read, their size, and that the list
+-- holds the model's gaps. Assumes nothing.
 use mathlib.Core.Path.{_≡_, refl, _∙_}
 use mathlib.Core.Bool.{Bool, true, false, _&&_}
 use mathlib.Core.List.{List}

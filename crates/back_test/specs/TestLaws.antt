@@ -1,4 +1,5 @@
--- Laws of the back-test: of a set, from its forecast and its errors; of a file, its refusal question by question. Assumes nothing.
+-- Laws of the back-test: of a set, from its forecast and its errors; of a file, its refusal
+-- question by question. Assumes nothing.
 use mathlib.Core.Path.{_≡_, sym, _∙_, ap}
 use mathlib.Core.Bool.{true, false, and-false}
 use mathlib.Core.List.{List}
@@ -66,7 +67,7 @@ module _ (m : ℕ) (s : TriangleSet) (c method basis : ℕ) where
         cells = paid-small m s valid .cells;
       }
 
-      -- the gaps as they are made, and document 01's
+      -- the gaps as they are made, and the model's
       abbrev made : ℕ → ℕ → ℤ
       made = cell (gaps m n out (s .paid))
 

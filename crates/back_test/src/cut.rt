@@ -18,7 +18,8 @@ fn kept(t: &[i64; 400], n: usize, p: usize) -> i64
     t[p]
 }
 
-// The cells of a triangle with i + j <= n, zeros in the other places: those of the first n rows are made one after the other.
+// The cells of a triangle with i + j <= n, zeros in the other places: those of the first n rows are
+// made one after the other.
 fn cut_triangle(t: &[i64; 400], n: usize) -> [i64; 400]
     requires { ⌜ n ≤ 20 ⌝ }
     ensures { λ r. ⌜ r ≡ triangle n (cell (now (t .entry))) ⌝ }

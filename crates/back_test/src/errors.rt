@@ -1,4 +1,5 @@
-// The number of cells compared, and the sums of absolute errors. The gap of cell (i,j) stands at 20 × (i-1) + j.
+// The number of cells compared, and the sums of absolute errors. The gap of cell (i,j) stands at 20
+// × (i-1) + j.
 ghost use mathlib.Core.Path.{_≡_};
 ghost use Prim.Native.Nat.{suc, _+_, _*_, _≤_, _<_, min};
 ghost use lib.IntN.{natAbs};
@@ -63,7 +64,8 @@ pub fn cellwise(d: &[i64; 400], n: usize) -> u64
     out
 }
 
-// The gap of row k + 1 in the calendar year where i + j is `end`, 0 where the row has no cell in it.
+// The gap of row k + 1 in the calendar year where i + j is `end`, 0 where the row has no cell in
+// it.
 fn row_in_year(d: &[i64; 400], n: usize, k: usize, end: usize) -> i64
     requires { ⌜ (n ≤ 20) × (k < 20) ⌝ }
     ensures { λ r. ⌜ r ≡ rowInYear (now (d .entry)) n k end ⌝ }

@@ -21,7 +21,8 @@ fn compared(m: usize, n: usize, i: usize, j: usize) -> bool
     i + j <= m
 }
 
-// The gap of cell (i,j), 0 where it is not compared: from the output of the cut set's forecast and the whole paid triangle.
+// The gap of cell (i,j), 0 where it is not compared: from the output of the cut set's forecast and
+// the whole paid triangle.
 fn gap(out: &[i64], paid: &[i64; 400], m: usize, n: usize, i: usize, j: usize) -> i64
     requires { ⌜ Forecast m n (now out) (now paid) × (1 ≤ i) × (i ≤ 20) × (j < 20) ⌝ }
     ensures { λ r. ⌜ r ≡ gapFrom m n (now (out .entry)) (now (paid .entry)) i j ⌝ }
@@ -36,7 +37,8 @@ fn gap(out: &[i64], paid: &[i64; 400], m: usize, n: usize, i: usize, j: usize) -
     rbns + ibnr - paid
 }
 
-// The gap of every cell, cell (i,j) at 20 × (i-1) + j. Those of the first n rows are made one after the other.
+// The gap of every cell, cell (i,j) at 20 × (i-1) + j. Those of the first n rows are made one after
+// the other.
 pub fn gaps(out: &[i64], paid: &[i64; 400], m: usize, n: usize) -> [i64; 400]
     requires { ⌜ Forecast m n (now out) (now paid) ⌝ }
     ensures { λ r. ⌜ r ≡ gaps m n (now (out .entry)) (now (paid .entry)) ⌝ }

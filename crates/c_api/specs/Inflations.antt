@@ -9,7 +9,7 @@ use Rattle.model.specs.declared.YearInflation.{YearInflation}
 use Rattle.model.specs.declared.Inflation.{Inflation}
 use Rattle.model.specs.declared.Inflation.the-variants.{BaseYear, NoPaymentsYet, Ratio}
 
--- "base year (row 1), no payments yet (U(i) = 0), or a ratio": the number that the C header gives each case
+-- the number that the C header gives each case of an inflation
 unfoldable pub kindOf : Inflation → ℕ
 kindOf BaseYear = 0
 kindOf NoPaymentsYet = 1

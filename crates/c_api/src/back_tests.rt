@@ -2,7 +2,8 @@
 ghost use mathlib.Core.Path.{_≡_};
 ghost use Rattle.model.specs.Calls.{ifAccepted, backTestAnswer};
 
-// The back-test with the latest c calendar years cut off: the number of cells compared, and the sums of absolute errors by cell, by calendar year and in all.
+// The back-test with the latest c calendar years cut off: the number of cells compared, and the
+// sums of absolute errors by cell, by calendar year and in all.
 #[no_mangle]
 pub extern "C" fn pardesul_back_test(
     file: &[u8],

@@ -57,7 +57,8 @@ fn ratios_of(list: [YearInflation; 20]) -> [f64; 20]
     out
 }
 
-// The claim costs: f(j) of paid at place j - 1, and of year i's inflation the kind and the ratio at place i - 1.
+// The claim costs: f(j) of paid at place j - 1, and of year i's inflation the kind and the ratio at
+// place i - 1.
 #[no_mangle]
 pub extern "C" fn pardesul_claim_costs(
     file: &[u8],

@@ -6,7 +6,7 @@ ghost use Rattle.model.specs.PaidReserve.{NearReserves};
 ghost use Rattle.model.specs.Calendar.{tallyAdd};
 ghost use Rattle.model.specs.Calls.{ifAccepted, forecastAnswer, forecastOutput};
 
-// The forecast: the cells go to the front of the output, the left over of year i to place i - 1.
+// The forecast: the cells go to the front of the output, the leftover of year i to place i - 1.
 #[no_mangle]
 pub extern "C" fn pardesul_forecast(
     file: &[u8],

@@ -2,7 +2,8 @@
 ghost use mathlib.Core.Path.{_≡_};
 ghost use Rattle.model.specs.Calls.{ifAccepted, sharesAnswer, delaysAnswer};
 
-// Shares and ultimates: b and N of counts; q, g and U of paid. Delay j stands at place j, year i at place i - 1.
+// Shares and ultimates: b and N of counts; q, g and U of paid. Delay j stands at place j, year i at
+// place i - 1.
 #[no_mangle]
 pub extern "C" fn pardesul_shares(
     file: &[u8],

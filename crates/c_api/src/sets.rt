@@ -3,7 +3,8 @@ ghost use mathlib.Core.Path.{_≡_};
 ghost use mathlib.Core.Bool.{cond};
 ghost use Rattle.model.specs.Calls.{ifAccepted, readAnswer, Wrote};
 
-// The reader: the set of a file goes to counts, paid and incurred, and has_incurred becomes 1 where incurred is there, else 0.
+// The reader: the set of a file goes to counts, paid and incurred, and has_incurred becomes 1 where
+// incurred is there, else 0.
 #[no_mangle]
 pub extern "C" fn pardesul_read_set(
     file: &[u8],

@@ -13,7 +13,8 @@ use Rattle.cells.specs.declared.cell.Cell.{Cell}
 unfoldable pub sumsFrom : ℕ → ℕ → List ℤ → List ℤ → List ℤ
 sumsFrom m c b p = tabulate 39 (λ j. pairs m j (leb c) b p)
 
--- RBNS and IBNR of cell (i,j), for the row base v, the weights s, the delays p and the sums u over the unreported claims: "cells with i + j <= m are 0"
+-- RBNS and IBNR of cell (i,j), for the row base v, the weights s, the delays p and the sums u over
+-- the unreported claims; a known cell is 0
 unfoldable pub cellOf : ℕ → ℤ → List ℤ → List ℤ → List ℤ → ℕ → ℕ → Cell
 cellOf m v s p u i j =
     record {
@@ -30,7 +31,8 @@ firstEntries m v s p u i n =
 abbrev pub yearEntries : ℕ → ℤ → List ℤ → List ℤ → List ℤ → ℕ → List ℤ
 yearEntries m v s p u i = firstEntries m v s p u i (2 * (2 * m - 1))
 
--- entry e of a forecast: v holds the row bases, year i at place i - 1, and s gives a year's weights of the reported claims
+-- entry e of a forecast: v holds the row bases, year i at place i - 1, and s gives a year's weights
+-- of the reported claims
 unfoldable pub entryAt : ℕ → List ℤ → (ℕ → List ℤ) → List ℤ → List ℤ → ℕ → ℤ
 entryAt m v s b p e =
     let i = yearOf m e in

@@ -1,4 +1,5 @@
--- Weights: what the cells ask of weights and delays. CellOf: a cell, the entries of a year and of several years. Ready: what the writing of the years asks.
+-- Weights: what the cells ask of weights and delays. CellOf: a cell, the entries of a year and of
+-- several years. Ready: what the writing of the years asks.
 pub mod Weights
 pub mod WeightsLaws
 pub mod PairLaws

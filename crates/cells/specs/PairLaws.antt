@@ -15,6 +15,7 @@ use Rattle.integers.specs.Sums.{sum, sum-suc, sum-cong, sum-nothing, sum-part, 
 use Rattle.model.specs.Lists.{at}
 use Rattle.model.specs.ListsLaws.{and-right}
 use Rattle.model.specs.Cells.{pairs}
+use Rattle.model.specs.Tests.{by-test}
 use Rattle.cells.specs.Weights.{Weights, Delays}
 
 -- one weight is at most what all are
@@ -77,15 +78,12 @@ module _ (m j : ℕ) (ok : ℕ → Bool) (x p : List ℤ) where
 -- terms that differ at c alone, where those of g are 0
 sum-but-one : (n c : ℕ) (f g : ℕ → ℤ) → c < n → g c ≡ pos 0 → ((k : ℕ) → (k ≡ c → ⊥) → f k ≡ g k) → sum n f ≡ sum n g +ℤ f c
 sum-but-one zero c f g h z same = absurd (let k : ⊥ = omega arith in k)
-sum-but-one (suc n) c f g h z same = by-test (λ l. sum-but-one n c f g l z same) (eqb c n) refl
-  where
-    by-test : (c < n → sum n f ≡ sum n g +ℤ f c) → (t : Bool) → eqb c n ≡ t → sum (suc n) f ≡ sum (suc n) g +ℤ f c
-    by-test before true e =
-        let d : c ≡ n = eqb-true c n e in
-        rw (sum-suc n f, sum-suc n g, ← d, z, sum-cong c (λ k l. same k (λ y. omega arith))) (lin₀ (sum c g ∷ f c ∷ []) (search stmt) (omega arith))
-    by-test before false e =
-        let d = eqb-false c n e in
-        rw (sum-suc n f, sum-suc n g, same n (λ y. d (sym y)), before (omega arith)) (lin₀ (sum n g ∷ f c ∷ g n ∷ []) (search stmt) (omega arith))
+sum-but-one (suc n) c f g h z same =
+    by-test (eqb c n)
+    (λ e. let d : c ≡ n = eqb-true c n e in
+    rw (sum-suc n f, sum-suc n g, ← d, z, sum-cong c (λ k l. same k (λ y. omega arith))) (lin₀ (sum c g ∷ f c ∷ []) (search stmt) (omega arith)))
+    (λ e. let d = eqb-false c n e in
+    rw (sum-suc n f, sum-suc n g, same n (λ y. d (sym y)), sum-but-one n c f g (omega arith) z same) (lin₀ (sum n g ∷ f c ∷ g n ∷ []) (search stmt) (omega arith)))
 
 -- ---- the reporting delays from c on
 module _ (m j : ℕ) (x p : List ℤ) where
@@ -95,11 +93,9 @@ module _ (m j : ℕ) (x p : List ℤ) where
   -- one delay more changes the term of that delay alone
   other-terms : (c k : ℕ) → (k ≡ c → ⊥) → from c k ≡ from (suc c) k
   unfolding term
-  other-terms c k n = by-test (leb (suc c) k) refl
-    where
-      by-test : (t : Bool) → leb (suc c) k ≡ t → from c k ≡ from (suc c) k
-      by-test true e = let h = leb-true (suc c) k e in rw (e, le-leb c k (omega arith))
-      by-test false e = let h = leb-false (suc c) k e in rw (e, lt-leb c k (omega arith))
+  other-terms c k n =
+      by-test (leb (suc c) k) (λ e. let h = leb-true (suc c) k e in rw (e, le-leb c k (omega arith)))
+      (λ e. let h = leb-false (suc c) k e in rw (e, lt-leb c k (omega arith)))
 
   without : (c : ℕ) → from (suc c) c ≡ pos 0
   without c = term-no m j (leb (suc c)) x p c (lt-leb (suc c) c (omega arith))
@@ -111,14 +107,10 @@ module _ (m j : ℕ) (x p : List ℤ) where
       ∙ ap (λ (z : ℤ). sum m (from (suc c)) +ℤ z) (term-in m j (leb c) x p c (le-leb c c (omega arith)) a b))
 
   pub no-more : (c : ℕ) → (j < c) ⊎ (c + m ≤ j) → pairs m j (leb c) x p ≡ pairs m j (leb (suc c)) x p
-  no-more c o = rw (pairs-terms m j (leb c) x p, pairs-terms m j (leb (suc c)) x p) (sum-cong m (λ k l. by-test k (eqb k c) refl))
+  no-more c o = rw (pairs-terms m j (leb c) x p, pairs-terms m j (leb (suc c)) x p) (sum-cong m (λ k l. by-test (eqb k c) (λ e. rw (eqb-true k c e) (nothing ∙ sym (without c))) (λ e. other-terms c k (eqb-false k c e))))
     where
       nothing : from c c ≡ pos 0
       nothing = ⊎-elim (term-after m j (leb c) x p c) (term-before m j (leb c) x p c) o
-
-      by-test : (k : ℕ) (t : Bool) → eqb k c ≡ t → from c k ≡ from (suc c) k
-      by-test k true e = rw (eqb-true k c e) (nothing ∙ sym (without c))
-      by-test k false e = other-terms c k (eqb-false k c e)
 
   pub none-left : pairs m j (leb m) x p ≡ pos 0
   none-left = pairs-terms m j (leb m) x p ∙ sum-nothing m (λ k l. term-no m j (leb m) x p k (lt-leb m k l))

@@ -1,4 +1,5 @@
--- What the writing of the years asks: the chain ladder of the counts t, row bases within question 14's range, and delays within question 12's.
+-- What the writing of the years asks: the chain ladder of the counts t, row bases within question
+-- 14's range, and delays within question 12's.
 use Prim.Native.Nat.{ℕ, suc, _+_, _-_, _*_, _^_, _≤_, _<_}
 use mathlib.Core.Path.{_≡_}
 use mathlib.Core.List.{List}

@@ -1,4 +1,5 @@
--- What Ready gives of a year i: its count share and latest sum as they stand in the lists, and that its weights are weights. Assumes nothing.
+-- What Ready gives of a year i: its count share and latest sum as they stand in the lists, and that
+-- its weights are weights. Assumes nothing.
 use mathlib.Core.Path.{_≡_, _∙_, ap}
 use mathlib.Core.Bool.{Bool, true, false, cond}
 use mathlib.Core.List.{List}

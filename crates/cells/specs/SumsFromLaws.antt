@@ -1,4 +1,5 @@
--- Laws of sumsFrom: the sums over the reporting delays after k, and what they become as each payment delay l adds b(k) × p(l). Assumes nothing.
+-- Laws of sumsFrom: the sums over the reporting delays after k, and what they become as each
+-- payment delay l adds b(k) × p(l). Assumes nothing.
 use mathlib.Core.Path.{_≡_, refl, sym, _∙_, ap}
 use mathlib.Core.Bool.{Bool, true, false, _&&_, cond, and-false}
 use mathlib.Core.Logic.{_⊎_, ⊎-elim, inl, inr}

@@ -1,4 +1,5 @@
--- What the cells ask of their callers: the sizes of weights and delays, by which every sum fits 64 bits.
+-- What the cells ask of their callers: the sizes of weights and delays, by which every sum fits 64
+-- bits.
 use Prim.Native.Nat.{ℕ, _*_, _+_, _-_, _^_, _≤_, _<_}
 use mathlib.Core.Bool.{cond}
 use mathlib.Core.List.{List}
@@ -23,7 +24,7 @@ Delays p = (l : ℕ) → l < 20 → natAbs (at p l) ≤ 8 * 10 ^ 9
 abbrev pub Summed : List ℤ → Type 0
 Summed u = (j : ℕ) → j < 39 → natAbs (at u j) ≤ 9 * 10 ^ 18
 
--- "r(count(i,k) × the count share g(m-i) / C(i,m-i) of counts)", for that share g and that sum c
+-- s(k) by the actual counts, from the count share g(m-i) and the row's sum c (01, Cell forecasts)
 unfoldable pub actualWeight : List ℤ → ℕ → ℤ → ℤ → ℕ → ℤ
 actualWeight counts i g c k = r (cell counts i k *ℤ g) c
 

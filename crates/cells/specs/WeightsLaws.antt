@@ -1,4 +1,5 @@
--- Laws of Weights: the weights of either basis are weights, for a sound triangle of counts. Assumes nothing.
+-- Laws of Weights: the weights of either basis are weights, for a sound triangle of counts. Assumes
+-- nothing.
 use mathlib.Core.Path.{_≡_, refl, _∙_, ap}
 use mathlib.Core.Bool.{Bool, true, false}
 use mathlib.Core.List.{List, [], _∷_}
@@ -20,6 +21,7 @@ use Rattle.model.specs.Rounding.{S}
 use Rattle.model.specs.Shares as Shares
 use Rattle.model.specs.Shares.{C, latest, g, bList}
 use Rattle.model.specs.Cells.{sList}
+use Rattle.model.specs.Tests.{by-test}
 use Rattle.model.specs.declared.TriangleSet.{TriangleSet}
 use Rattle.arithmetic.specs.RoundingLaws.{r-nonneg, r-upper}
 use Rattle.chain_ladder.specs.SharesLaws.{Sound, share-range, shares-sum, g-range}
@@ -28,11 +30,9 @@ use Rattle.cells.specs.Weights.{Weights, actualWeight, weightsFrom}
 -- a list of 20 places whose first n hold f, which is not negative
 module _ (n : ℕ) (f : ℕ → ℤ) (few : n ≤ 20) where
   listed-nonneg : ((k : ℕ) → k < n → pos 0 ⩽ f k) → (k : ℕ) → k < 20 → pos 0 ⩽ at (listed 20 n f (pos 0)) k
-  listed-nonneg h k l = by-test (ltb k n) refl
-    where
-      by-test : (t : Bool) → ltb k n ≡ t → pos 0 ⩽ at (listed 20 n f (pos 0)) k
-      by-test true e = let u : k < n = ltb-true k n e in rw (getD-listed 20 n f (pos 0) k (pos 0) l u) (h k u)
-      by-test false e = let u : n ≤ k = ltb-false k n e in rw (getD-listed-past 20 n f (pos 0) k (pos 0) l u) (nonneg 0)
+  listed-nonneg h k l =
+      by-test (ltb k n) (λ e. let u : k < n = ltb-true k n e in rw (getD-listed 20 n f (pos 0) k (pos 0) l u) (h k u))
+      (λ e. let u : n ≤ k = ltb-false k n e in rw (getD-listed-past 20 n f (pos 0) k (pos 0) l u) (nonneg 0))
 
   listed-sum : sum 20 (at (listed 20 n f (pos 0))) ≡ sum n f
   listed-sum =

@@ -1,4 +1,5 @@
--- Laws of the entries of several years: none, one year more, and all of them as the model has them. Assumes nothing.
+-- Laws of the entries of several years: none, one year more, and all of them as the model has them.
+-- Assumes nothing.
 use mathlib.Core.Path.{_≡_, sym, _∙_, ap}
 use mathlib.Core.Bool.{cond}
 use mathlib.Core.List.{List, [], _++_}

@@ -1,4 +1,4 @@
-// Cell forecasts: document 01's section of that name.
+// The cells of a year (01, Cell forecasts).
 
 ghost use mathlib.Core.Path.{_≡_};
 ghost use mathlib.Core.Logic.{_⊎_};
@@ -52,8 +52,8 @@ pub struct Cell {
     pub ibnr: i64,
 }
 
-// The cell of year i and delay j: v is the row base, s weighs the reported claims, p holds the delays, and `unreported` the sums over the
-// claims that are not reported. A known cell is 0.
+// The cell of year i and delay j: v is the row base, s weighs the reported claims, p holds the
+// delays, and `unreported` the sums over the claims that are not reported. A known cell is 0.
 fn one_cell(
     v: i64,
     s: &[i64; 20],

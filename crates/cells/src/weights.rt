@@ -1,4 +1,4 @@
-// The weights of the reported claims, s(k): document 01's section "Cell forecasts".
+// The weights s(k) of the reported claims (01, Cell forecasts).
 
 ghost use mathlib.Core.Path.{_≡_};
 ghost use Prim.Native.Nat.{ℕ, _+_, _-_, _*_, _^_, _≤_};
@@ -23,7 +23,8 @@ fn actual_weights(counts: &[i64; 400], m: usize, i: usize, g: i64, latest: i64) 
     out
 }
 
-// The weights of year i under either basis: shares are those of counts, g the count share g(m-i), and latest the sum C(i,m-i) of counts.
+// The weights of year i under either basis: shares are those of counts, g the count share g(m-i),
+// and latest the sum C(i,m-i) of counts.
 pub fn weights(
     counts: &[i64; 400],
     m: usize,

@@ -10,7 +10,8 @@ ghost use Rattle.cells.specs.Weights.{Weights, Delays};
 ghost use Rattle.cells.specs.CellOf.{sumsFrom, yearsEntries};
 ghost use Rattle.cells.specs.Ready.{Ready, yearWeights};
 
-// The sums of b(k) × p(j-k) over the reporting delays from k on, for each j, from those over the delays after k.
+// The sums of b(k) × p(j-k) over the reporting delays from k on, for each j, from those over the
+// delays after k.
 fn one_more_delay(after: [i64; 39], b: &[i64; 20], p: &[i64; 20], m: usize, k: usize) -> [i64; 39]
     requires { ⌜ (k < m) × (m ≤ 20) × (after ≡ sumsFrom m (k + 1) (now b) (now p)) ⌝ }
     requires { ⌜ Weights (now b) × Delays (now p) ⌝ }
@@ -25,8 +26,9 @@ fn one_more_delay(after: [i64; 39], b: &[i64; 20], p: &[i64; 20], m: usize, k: u
     sums
 }
 
-// The cell forecast of years 1 to m, at the front of the output: v holds the row bases, p the delays, and shares, g and latest are those of counts. A year
-// leaves one reporting delay fewer to the reported claims than the year before it.
+// The cell forecast of years 1 to m, at the front of the output: v holds the row bases, p the
+// delays, and shares, g and latest are those of counts. A year leaves one reporting delay fewer to
+// the reported claims than the year before it.
 pub fn cell_forecast(
     out: &mut [i64],
     m: usize,

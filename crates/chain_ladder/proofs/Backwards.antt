@@ -1,4 +1,5 @@
--- A list that is filled from a place backwards: places j to m - 1 of n hold f, the others 0. Assumes nothing.
+-- A list that is filled from a place backwards: places j to m - 1 of n hold f, the others 0.
+-- Assumes nothing.
 use mathlib.Core.Path.{_≡_, refl, sym, _∙_, ap₂}
 use mathlib.Core.Bool.{Bool, true, false, _&&_, cond}
 use mathlib.Core.List.{List}

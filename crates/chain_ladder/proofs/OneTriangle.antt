@@ -1,4 +1,5 @@
--- One triangle t of a set, on the way from its sums x through its cumulative shares y to its chain ladder. Assumes nothing.
+-- One triangle t of a set, on the way from its sums x through its cumulative shares y to its chain
+-- ladder. Assumes nothing.
 use mathlib.Core.Path.{_≡_, _∙_, ap}
 use mathlib.Core.Bool.{true}
 use mathlib.Core.List.{List}

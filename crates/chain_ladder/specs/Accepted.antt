@@ -1,4 +1,5 @@
--- A file that the reader accepts holds a valid set: each of its values is in range, and each cell is the value of its one record. Assumes nothing.
+-- A file that the reader accepts holds a valid set: each of its values is in range, and each cell
+-- is the value of its one record. Assumes nothing.
 use mathlib.Core.Path.{_≡_, refl, sym, _∙_, subst}
 use mathlib.Core.Bool.{Bool, true, cond}
 use mathlib.Core.List.{List}

@@ -1,4 +1,5 @@
--- Laws of Ladder, and that the chain ladder from a triangle's lists is that of the triangle. Assumes nothing.
+-- Laws of Ladder, and that the chain ladder from a triangle's lists is that of the triangle.
+-- Assumes nothing.
 use mathlib.Core.Path.{_≡_, refl, sym, _∙_, ap, ap₂}
 use mathlib.Core.Bool.{Bool, true, false, cond}
 use mathlib.Core.List.{List}

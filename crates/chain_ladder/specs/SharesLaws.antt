@@ -1,4 +1,5 @@
--- Laws of Shares, for a triangle t of size m whose cells are not negative (counts and paid). Assumes nothing.
+-- Laws of Shares, for a triangle t of size m whose cells are not negative (counts and paid).
+-- Assumes nothing.
 use mathlib.Core.Path.{_≡_, _∙_, ap}
 use mathlib.Core.Logic.{_⊎_, inl, inr}
 use mathlib.Core.List.{List, [], _∷_}
@@ -24,14 +25,14 @@ pub S-pos : pos 0 ⋖ S
 unfolding S
 S-pos = omega (arith, ints)
 
--- ---- 01's own words
+-- ---- as 01 gives them
 module _ (m : ℕ) (t : List ℤ) where
-  -- "g(m-1) = S"
+  -- g(m-1) = S
   pub g-last : g m t (m - 1) ≡ S
   unfolding g gDown
   g-last = let e : m - 1 - (m - 1) ≡ 0 = omega arith in rw e
 
-  -- "g(j-1) = r(g(j) × A(j) / B(j))"
+  -- g(j-1) = r(g(j) × A(j) / B(j))
   pub g-step : (j : ℕ) → 1 ≤ j → j < m → g m t (j - 1) ≡ r (g m t j *ℤ A m t j) (B m t j)
   unfolding g gDown
   g-step j h l =
@@ -146,7 +147,7 @@ module _ (m : ℕ) (t : List ℤ) (ok : Sound m t) where
       (A-nonneg m t (ok .cells) j (omega arith) (omega arith)) (A-B m t (ok .cells) j (omega arith) (omega arith)) (ok .columns j (omega arith) (omega arith)) in
       (now .0, ≤ℤ-trans (now .1) (before .1))
 
-  -- "shares are between 0 and S"
+  -- cumulative shares are between 0 and S
   pub g-range : (j : ℕ) → j < m → (pos 0 ⩽ g m t j) × (g m t j ⩽ S)
   unfolding g
   g-range j h = down-range (m - 1 - j) (omega arith)

@@ -1,4 +1,5 @@
--- Laws of a triangle's sums: how they go on from delay to delay, and how large they get. Assumes nothing.
+-- Laws of a triangle's sums: how they go on from delay to delay, and how large they get. Assumes
+-- nothing.
 use mathlib.Core.Path.{_≡_, _∙_, ap}
 use mathlib.Core.List.{List, [], _∷_}
 use Prim.Native.Nat.{ℕ, suc, _+_, _-_, _*_, _^_, _≤_, _<_}

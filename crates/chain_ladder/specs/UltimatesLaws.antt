@@ -1,4 +1,5 @@
--- Laws of ultimates: how large they get, and that they are no less than the latest sums. Assumes nothing.
+-- Laws of ultimates: how large they get, and that they are no less than the latest sums. Assumes
+-- nothing.
 use mathlib.Core.Path.{_≡_, sym}
 use mathlib.Core.Bool.{true}
 use mathlib.Core.List.{List}

@@ -1,4 +1,5 @@
-// The chain ladder of a triangle, document 01's "Shares": sums, cumulative shares, shares and ultimates, and the questions 9 to 11 and 13.
+// The chain ladder of a triangle (01, Shares): sums, cumulative shares, shares and
+// ultimates, and the questions 9 to 11 and 13.
 mod ladder;
 pub mod sums;
 
@@ -11,14 +12,16 @@ ghost use Rattle.chain_ladder.specs.Valid.{Amounts};
 ghost use Rattle.chain_ladder.specs.Sums.{Small};
 ghost use Rattle.chain_ladder.specs.Developed.{noDeveloped, developed, noIncurred, incurredOf};
 
-// The sums of a triangle of m years: C(i,m-i) at place i - 1, A(j) and B(j) at place j - 1. The other places hold 0.
+// The sums of a triangle of m years: C(i,m-i) at place i - 1, A(j) and B(j) at place j - 1. The
+// other places hold 0.
 pub struct TriangleSums {
     pub latest: [i64; 20],
     pub a: [i64; 20],
     pub b: [i64; 20],
 }
 
-// The chain ladder of a triangle of m years: C(i,m-i) and the ultimate of year i at place i - 1, g(j) and the share of delay j at place j. Places from m on hold 0.
+// The chain ladder of a triangle of m years: C(i,m-i) and the ultimate of year i at place i - 1,
+// g(j) and the share of delay j at place j. Places from m on hold 0.
 pub struct Development {
     pub latest: [i64; 20],
     pub g: [i64; 20],
@@ -26,14 +29,16 @@ pub struct Development {
     pub ultimates: [i64; 20],
 }
 
-// The chain ladder of a set's counts and paid. A refusal of 0 says that questions 9 to 11 got a yes.
+// The chain ladder of a set's counts and paid. A refusal of 0 says that questions 9 to 11 got a
+// yes.
 pub struct Developed {
     pub refusal: u64,
     pub counts: Development,
     pub paid: Development,
 }
 
-// The ultimates of incurred, W(i) at place i - 1, where `ok` says that question 13 got a yes; else zeros.
+// The ultimates of incurred, W(i) at place i - 1, where `ok` says that question 13 got a yes; else
+// zeros.
 pub struct Incurred {
     pub ok: bool,
     pub ultimates: [i64; 20],
@@ -72,7 +77,8 @@ fn refused(number: u64) -> Developed
     }
 }
 
-// Questions 9 to 11, and the chain ladder of counts and of paid. Neither's g rises above S or falls with the delay: all are in bounds where g(0) is.
+// Questions 9 to 11, and the chain ladder of counts and of paid. Neither's g rises above S or falls
+// with the delay: all are in bounds where g(0) is.
 pub fn develop<'a>(counts: &'a [i64; 400], paid: &'a [i64; 400], m: usize) -> Developed
     requires { ⌜ Amounts m (10 ^ 7) (now counts) × Amounts m (10 ^ 10) (now paid) ⌝ }
     ensures { λ r. ⌜ r ≡ developed m (now (counts .entry)) (now (paid .entry)) ⌝ }

@@ -1,4 +1,5 @@
--- What this crate's functions hand back of a set of size m, and what they ask of the numbers that they divide.
+-- What this crate's functions hand back of a set of size m, and what they ask of the numbers that
+-- they divide.
 use Prim.Native.Nat.{ℕ, suc, _^_, _≤_, _<_}
 use mathlib.Core.Bool.{cond}
 use mathlib.Core.List.{List}

@@ -1,4 +1,5 @@
--- Laws of Costs: in an accepted set every number that is divided is held exactly, and every divisor is above zero. Assumes nothing.
+-- Laws of Costs: in an accepted set every number that is divided is held exactly, and every divisor
+-- is above zero. Assumes nothing.
 use mathlib.Core.Path.{_≡_, sym, _∙_, ap, ap₂}
 use mathlib.Core.List.{List}
 use Prim.Native.Nat.{ℕ, suc, _-_, _≤_, _<_}

@@ -15,7 +15,8 @@ use Rattle.model.specs.Rounding.{S, r}
 use Rattle.model.specs.Delays.{delayAfter, delaysTo, delays}
 use Rattle.arithmetic.specs.RoundingLaws.{r-near}
 
--- what the theorems use of m delays p, and nothing else: 2 |b(0) p(l) + .. + b(l) p(0) - S q(l)| ≤ b(0)
+-- what the theorems use of m delays p, and nothing else: 2 |b(0) p(l) + .. + b(l) p(0) - S q(l)| ≤
+-- b(0)
 abbrev pub Solves : ℕ → List ℤ → List ℤ → List ℤ → Type 0
 Solves m b q p = (l : ℕ) → l < m → pos 2 *ℤ ∣ conv (at b) (at p) l -ℤ S *ℤ at q l ∣ ⩽ at b 0
 
@@ -58,7 +59,7 @@ module _ (b q : List ℤ) where
       delay-kept m (suc l) l k (omega arith)
       ∙ getD-set-same (delaysTo b q l) l (delayAfter b q (delaysTo b q l) l) (pos 0) (rw (length-delays l) (omega arith))
 
-  -- "p(l) = r((S × q(l) - sum of b(k) × p(l-k) for k = 1 to l) / b(0))"
+  -- p(l) by its formula, from all the delays
   pub delay-is : (m l : ℕ) → m ≤ 20 → l < m → at (delays m b q) l ≡ delayAfter b q (delays m b q) l
   unfolding delays
   delay-is m l h k = delay-from m l h k ∙ same-formula (delaysTo b q l) (delaysTo b q m) l (λ j u. sym (delay-kept m l j (omega arith) u))

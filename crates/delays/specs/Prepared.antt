@@ -1,4 +1,5 @@
--- What counts c and paid d give the cells under every method: their chain ladder and their delays, or the first no of questions 9 to 12.
+-- What counts c and paid d give the cells under every method: their chain ladder and their delays,
+-- or the first no of questions 9 to 12.
 use Prim.Native.Nat.{ℕ}
 use mathlib.Core.List.{List, _++_}
 use lib.IntN.{ℤ}

@@ -21,7 +21,8 @@ unsolved = record { ok = false; p = zeros 20 }
 unfoldable pub solvedOf : ℕ → List ℤ → List ℤ → Solved
 solvedOf m b q = let p = delays m b q in record { ok = q12 m p; p = cond (q12 m p) p (zeros 20) }
 
--- what questions 1, 5 and 9 to 11 give of b and q: the shares are not negative, those of b add up to S, and b(0) is at least 10^6
+-- what questions 1, 5 and 9 to 11 give of b and q: the shares are not negative, those of b add up
+-- to S, and b(0) is at least 10^6
 pub record Solvable (m : ℕ) (b q : List ℤ) : Type 0 where
   pub few : m ≤ 20
   pub first : pos (10 ^ 6) ⩽ at b 0
@@ -29,7 +30,8 @@ pub record Solvable (m : ℕ) (b q : List ℤ) : Type 0 where
   pub whole : sum m (at b) ≡ S
   pub targets : (l : ℕ) → l < m → (pos 0 ⩽ at q l) × (at q l ⩽ S)
 
--- of the numbers that the sum for delay l is made of: the shares after the first add up to at most S - 10^6, and each delay is in its bounds
+-- of the numbers that the sum for delay l is made of: the shares after the first add up to at most
+-- S - 10^6, and each delay is in its bounds
 pub record Weighed (l : ℕ) (b p : List ℤ) : Type 0 where
   pub few : l < 20
   pub shares : (k : ℕ) → k < l → pos 0 ⩽ at b (suc k)

@@ -55,7 +55,8 @@ fn no_delays() -> Solved
     }
 }
 
-// All m delays, from the shares b of counts and q of paid. It stops at the first that is outside question 12's bounds.
+// All m delays, from the shares b of counts and q of paid. It stops at the first that is outside
+// question 12's bounds.
 pub fn solve(m: usize, b: [i64; 20], q: [i64; 20]) -> Solved
     requires { ⌜ Solvable m b q ⌝ }
     ensures { λ r. ⌜ r ≡ solvedOf m b q ⌝ }

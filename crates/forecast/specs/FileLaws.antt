@@ -1,4 +1,5 @@
--- Laws of the forecast of a file: its refusal question by question, and its whole contract, demand 3 among it, from the forecast of the set. Assumes nothing.
+-- Laws of the forecast of a file: its refusal question by question, and its whole contract, demand
+-- 3 among it, from the forecast of the set. Assumes nothing.
 use mathlib.Core.Path.{_≡_, refl, sym, _∙_, ap}
 use mathlib.Core.Bool.{true, false}
 use mathlib.Core.List.{List}

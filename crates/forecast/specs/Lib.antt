@@ -1,4 +1,5 @@
--- SetForecast: the forecast of a set, and of what is prepared of it. FileLaws: the forecast of a file.
+-- SetForecast: the forecast of a set, and of what is prepared of it. FileLaws: the forecast of a
+-- file.
 pub mod SetForecast
 pub mod SetForecastLaws
 pub mod FileLaws

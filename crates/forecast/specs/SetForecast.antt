@@ -36,7 +36,8 @@ setAnswer m s method = answerBy (setRefusal m s method) m s method
 abbrev pub setOutput : ℕ → TriangleSet → ℕ → ℕ → List ℤ → List ℤ
 setOutput m s method basis before = outputBy (setRefusal m s method) m s (delaysOf m s) method basis before
 
--- x is prepared of the set s, whose counts and incurred are lent; its delays are any within question 12's range
+-- x is prepared of the set s, whose counts and incurred are lent; its delays are any within
+-- question 12's range
 pub record PreparedOf (m : ℕ) (s : TriangleSet) (method : ℕ) (x : Prepared) (counts incurred : List ℤ) : Type 0 where
   pub asked : Asked m s method
   pub counts-lent : counts ≡ s .counts

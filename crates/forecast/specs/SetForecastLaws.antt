@@ -1,4 +1,5 @@
--- Laws of the forecast of a set: what is prepared gives the row bases and the cells what they ask, and these give the answer. Assumes nothing.
+-- Laws of the forecast of a set: what is prepared gives the row bases and the cells what they ask,
+-- and these give the answer. Assumes nothing.
 use mathlib.Core.Path.{_≡_, refl, sym, _∙_, ap}
 use mathlib.Core.Bool.{true}
 use mathlib.Core.List.{List, _++_}

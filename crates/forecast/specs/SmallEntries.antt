@@ -1,4 +1,5 @@
--- Every entry of an accepted forecast is at most 2 × 10^15, so that no calendar-year sum leaves 64 bits. Assumes nothing.
+-- Every entry of an accepted forecast is at most 2 × 10^15, so that no calendar-year sum leaves 64
+-- bits. Assumes nothing.
 use mathlib.Core.Path.{_≡_}
 use mathlib.Core.Bool.{Bool, true, false, cond}
 use mathlib.Core.List.{List}

@@ -25,9 +25,9 @@ pub fn q6(has_incurred: bool, method: u64, basis: u64) -> bool
     has_incurred
 }
 
-// The forecast of a file, by method (0 DCL, 1 BDCL, 2 IDCL) and basis (0 actual, 1 estimated counts):
-// questions 1 to 7 and 9 to 14. The output's first 2m(2m - 1) entries are the cells; a refusal leaves
-// it as it was.
+// The forecast of a file, by method (0 DCL, 1 BDCL, 2 IDCL) and basis (0 actual, 1 estimated
+// counts): questions 1 to 7 and 9 to 14. The output's first 2m(2m - 1) entries are the cells; a
+// refusal leaves it as it was.
 pub fn forecast(file: &[u8], m: usize, method: u64, basis: u64, out: &mut [i64]) -> ForecastAnswer
     ensures { λ r. ⌜ Forecasted m (now (file .entry)) method basis (now (out .entry)) (now (out .exit)) r ⌝ }
 {

@@ -57,7 +57,8 @@ pub fn forecast_prepared<'a>(
     }
 }
 
-// The forecast of a set: questions 9 to 14, the leftovers, and the cells at the front of the output.
+// The forecast of a set: questions 9 to 14, the leftovers, and the cells at the front of the
+// output.
 pub fn forecast_set(
     set: TriangleSet,
     m: usize,

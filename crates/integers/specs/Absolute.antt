@@ -1,5 +1,5 @@
--- The absolute value as a whole number, and the calculus of errors: `Half x c` says that 2|x| ≤ c. Errors add up, and are multiplied by what multiplies them.
--- Assumes nothing.
+-- The absolute value as a whole number, and the calculus of errors: `Half x c` says that 2|x| ≤ c.
+-- Errors add up, and are multiplied by what multiplies them. Assumes nothing.
 use mathlib.Core.Path.{_≡_, sym, ap, subst}
 use mathlib.Core.List.{[], _∷_}
 use Prim.Native.Nat.{ℕ, zero, suc, _<_}

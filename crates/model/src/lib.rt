@@ -35,7 +35,7 @@ pub struct DelaysAnswer {
     pub p: [i64; 20],
 }
 
-// The left overs, beside the output that the caller lends; year i at place i - 1.
+// The leftovers, beside the output that the caller lends; year i at place i - 1.
 pub struct ForecastAnswer {
     pub refusal: u64,
     pub leftovers: [i64; 20],

@@ -1,4 +1,5 @@
--- Shares rounded at each step against shares that are never rounded, for a sound triangle. Assumes nothing.
+-- Shares rounded at each step against shares that are never rounded, for a sound triangle. Assumes
+-- nothing.
 use mathlib.Core.Path.{sym}
 use mathlib.Core.List.{List, [], _∷_}
 use Prim.Native.Nat.{ℕ, zero, suc, _-_, _<_}

@@ -1,4 +1,5 @@
--- A year's forecast at the delays below m against its unrounded paid chain-ladder reserve. Assumes nothing.
+-- A year's forecast at the delays below m against its unrounded paid chain-ladder reserve. Assumes
+-- nothing.
 use mathlib.Core.Path.{_≡_, _∙_, ap}
 use mathlib.Core.List.{List, [], _∷_}
 use Prim.Native.Nat.{ℕ, suc, _+_, _-_, _≤_}
@@ -28,7 +29,8 @@ year-algebra s z v x b a n p q k h =
     half-cancel s p (half-≤ (half-is (ring (s ∷ z ∷ v ∷ x ∷ []) (search form depth 20) tt) h)
     (nlin (s ∷ b ∷ a ∷ pos n ∷ []) (*ℤ-mono-l (pos n *ℤ a) (*ℤ-nonneg (nonneg n) q) k) (search nstmt depth 20) (omega arith)))
 
--- the three errors put together: z the year's sum, w its ultimate, c its latest sum, t / u the unrounded share, g the rounded one
+-- the three errors put together: z the year's sum, w its ultimate, c its latest sum, t / u the
+-- unrounded share, g the rounded one
 bound-algebra : (s g t u c w z i : ℤ) (n : ℕ) → i ≡ pos n +ℤ pos 1 → pos n ⩽ s
     → pos 0 ⋖ s → pos 0 ⋖ g → g ⩽ s → pos 0 ⋖ t → t ⩽ s *ℤ u → pos 0 ⩽ c
     → Half (s *ℤ z -ℤ w *ℤ (s -ℤ g)) (pos n *ℤ (pos 2 *ℤ s +ℤ w))

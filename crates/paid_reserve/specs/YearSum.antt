@@ -1,5 +1,5 @@
--- A year's cells at the delays below m, with estimated counts: for any row base v, and any delays p that solve the system of the shares b and q.
--- Assumes nothing.
+-- A year's cells at the delays below m, with estimated counts: for any row base v, and any delays p
+-- that solve the system of the shares b and q. Assumes nothing.
 use mathlib.Core.Path.{_≡_, refl, sym, _∙_, ap, ap₂}
 use mathlib.Core.Bool.{Bool, true, false, _&&_, cond}
 use mathlib.Core.List.{List, [], _∷_}

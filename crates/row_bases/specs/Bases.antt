@@ -1,4 +1,5 @@
--- Row bases and left overs from a year's numbers: the ultimates u of paid and w of incurred, the latest paid sum c, and u1 and w1 of year 1.
+-- Row bases and leftovers from a year's numbers: the ultimates u of paid and w of incurred, the
+-- latest paid sum c, and u1 and w1 of year 1.
 use Prim.Native.Nat.{ℕ, _*_, _^_, _≤_, _<_}
 use mathlib.Core.Path.{_≡_}
 use mathlib.Core.Bool.{_&&_, cond}
@@ -17,11 +18,12 @@ unfoldable pub baseFrom : ℕ → ℤ → ℤ → ℤ → ℤ → ℤ → ℤ
 baseFrom method u1 w1 u w c =
     cond (eqb method 1) (r (u1 *ℤ w) w1) (cond (eqb method 2) (cond (isZero (u -ℤ c)) u (r (u *ℤ (w -ℤ c)) (u -ℤ c))) u)
 
--- the left over: w - c under method 2 where u - c is 0
+-- the leftover: w - c under method 2 where u - c is 0
 unfoldable pub leftFrom : ℕ → ℤ → ℤ → ℤ → ℤ
 leftFrom method u w c = cond (eqb method 2 && isZero (u -ℤ c)) (w -ℤ c) (pos 0)
 
--- what an accepted set gives of a year: no number is negative or above 2 × 10^14, and c is at most u
+-- what an accepted set gives of a year: no number is negative or above 2 × 10^14, and c is at most
+-- u
 pub record Year (method : ℕ) (u w c : ℤ) : Type 0 where
   pub known : method ≤ 2
   pub high : (natAbs u ≤ 2 * 10 ^ 14) × (natAbs w ≤ 2 * 10 ^ 14)

@@ -1,4 +1,5 @@
--- Laws of Bases: a row base and a left over in each case, and the sizes of what is divided. Assumes nothing.
+-- Laws of Bases: a row base and a leftover in each case, and the sizes of what is divided. Assumes
+-- nothing.
 use mathlib.Core.Path.{_≡_}
 use mathlib.Core.Bool.{true, false}
 use mathlib.Core.List.{[], _∷_}

@@ -36,7 +36,8 @@ bothBases m s method = record { refusal = 0; v = rowBases m s method; leftovers 
 unfoldable pub methodBases : ℕ → TriangleSet → ℕ → MethodBases
 methodBases m s method = let n = firstNo (ofMethod m s method) in ifAccepted n (bothBases m s method) (noBases n)
 
--- W of the incurred triangle t under methods 1 and 2; zeros under method 0, where incurred is not asked for
+-- W of the incurred triangle t under methods 1 and 2; zeros under method 0, where incurred is not
+-- asked for
 unfoldable pub incurredUnder : ℕ → List ℤ → ℕ → Incurred
 incurredUnder m t method = cond (eqb method 0) (record { ok = true; ultimates = zeros 20 }) (incurredOf m t)
 
@@ -54,7 +55,8 @@ pub record Sized (m method : ℕ) (d : Development) (t : List ℤ) : Type 0 wher
   pub incurred : (method ≡ 0 → ⊥) → Small m (10 ^ 10) t
   pub years : incurredUnder m t method .ok ≡ true → AllSizes m method (d .ultimates) (d .latest) (incurredUnder m t method .ultimates)
 
--- what questions 1, 5, 6 and 9 to 11 give: a method that is known, with its incurred, and counts and paid that passed
+-- what questions 1, 5, 6 and 9 to 11 give: a method that is known, with its incurred, and counts
+-- and paid that passed
 pub record Asked (m : ℕ) (s : TriangleSet) (method : ℕ) : Type 0 where
   pub valid : Valid m s
   pub shared : Shared m (s .counts) (s .paid)

@@ -1,4 +1,5 @@
--- Laws of Method: the bases and left overs from the lists are the model's, and the questions 13 and 14 as the code asks them. Assumes nothing.
+-- Laws of Method: the bases and leftovers from the lists are the model's, and the questions 13 and
+-- 14 as the code asks them. Assumes nothing.
 use mathlib.Core.Path.{_≡_, refl, sym, _∙_, ap, ap₂}
 use mathlib.Core.Bool.{Bool, true, false, _&&_, false≢true}
 use mathlib.Core.List.{List, [], _∷_}

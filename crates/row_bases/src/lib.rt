@@ -10,7 +10,8 @@ ghost use Prim.Native.Nat.{_^_, _≤_};
 ghost use Rattle.chain_ladder.specs.Sums.{Small};
 ghost use Rattle.row_bases.specs.Method.{Sized, noBases, incurredUnder, basesFrom};
 
-// V(i) and the left over of year i, both at place i - 1. A refusal of 0 says that the questions got a yes; beside another stand zeros.
+// V(i) and the leftover of year i, both at place i - 1. A refusal of 0 says that the questions got
+// a yes; beside another stand zeros.
 pub struct MethodBases {
     pub refusal: u64,
     pub v: [i64; 20],
@@ -42,7 +43,8 @@ fn incurred_under(incurred: &[i64; 400], m: usize, method: u64) -> Incurred
     chain_ladder::incurred_ultimates(incurred, m)
 }
 
-// The row bases and left overs of a set, from the chain ladder of its paid triangle and its incurred triangle.
+// The row bases and leftovers of a set, from the chain ladder of its paid triangle and its
+// incurred triangle.
 pub fn method_bases(paid: Development, incurred: &[i64; 400], m: usize, method: u64) -> MethodBases
     requires { ⌜ Sized m method paid (now incurred) ⌝ }
     ensures { λ r. ⌜ r ≡ basesFrom m method paid (incurredUnder m (now (incurred .entry)) method) ⌝ }

@@ -1,4 +1,5 @@
--- `back_test` meets its contract: the reader's questions, 6 and 8, and then the back-test of the set. Assumes nothing.
+-- `back_test` meets its contract: the reader's questions, 6 and 8, and then the back-test of the
+-- set. Assumes nothing.
 use mathlib.Core.Path.{_≡_, sym, _∙_, ap}
 use mathlib.Core.Bool.{true}
 use mathlib.Core.List.{List}

@@ -1,4 +1,5 @@
--- `shares` meets its contract: the reader's questions, and then those of the chain ladder. Assumes nothing.
+-- `shares` meets its contract: the reader's questions, and then those of the chain ladder. Assumes
+-- nothing.
 use mathlib.Core.Path.{_≡_, sym, _∙_, ap}
 use mathlib.Core.List.{List}
 use Prim.Native.Nat.{ℕ}

@@ -1,4 +1,5 @@
--- `claim_costs` meets its contract: the reader's questions, and then those of the set. Assumes nothing.
+-- `claim_costs` meets its contract: the reader's questions, and then those of the set. Assumes
+-- nothing.
 use mathlib.Core.Path.{_≡_, sym, _∙_, ap}
 use mathlib.Core.List.{List}
 use Prim.Native.Nat.{ℕ}

@@ -1,4 +1,5 @@
--- `claim_costs_of_set` meets its contract: the questions of the shares, and then the quotients. Assumes nothing.
+-- `claim_costs_of_set` meets its contract: the questions of the shares, and then the quotients.
+-- Assumes nothing.
 use mathlib.Core.Path.{_≡_, sym, _∙_, ap}
 use Prim.Native.Nat.{ℕ, _≤_}
 use native.Mathlib.Omega.{arith}

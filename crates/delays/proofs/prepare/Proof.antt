@@ -1,4 +1,5 @@
--- `delays::prepare` meets its contract: the questions of the shares, and then question 12. Assumes nothing.
+-- `delays::prepare` meets its contract: the questions of the shares, and then question 12. Assumes
+-- nothing.
 use mathlib.Core.Path.{_≡_, sym, _∙_, ap, ap₂}
 use mathlib.Core.Bool.{cond}
 use mathlib.Core.List.{List}

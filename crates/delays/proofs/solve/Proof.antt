@@ -1,4 +1,5 @@
--- `solve` meets its contract: the delays so far are solved, and are in their bounds. Assumes nothing.
+-- `solve` meets its contract: the delays so far are solved, and are in their bounds. Assumes
+-- nothing.
 use mathlib.Core.Path.{_≡_, refl, sym, _∙_, ap, ap₂}
 use mathlib.Core.Bool.{Bool, true, false}
 use mathlib.Core.List.{List}

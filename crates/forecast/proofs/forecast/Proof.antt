@@ -1,4 +1,5 @@
--- `forecast::forecast` meets its contract: the reader's questions, 6 and 7, and then the forecast of the set. Assumes nothing.
+-- `forecast::forecast` meets its contract: the reader's questions, 6 and 7, and then the forecast
+-- of the set. Assumes nothing.
 use mathlib.Core.Path.{_≡_, sym, _∙_, ap, subst}
 use mathlib.Core.List.{List}
 use Prim.Native.Nat.{ℕ, _*_, _-_, _≤_}

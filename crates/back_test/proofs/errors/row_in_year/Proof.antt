@@ -1,4 +1,5 @@
--- `errors::row_in_year` meets its contract: the row has one cell in the year, or none. Assumes nothing.
+-- `errors::row_in_year` meets its contract: the row has one cell in the year, or none. Assumes
+-- nothing.
 use mathlib.Core.Path.{_≡_, sym, _∙_, ap}
 use Prim.Native.Nat.{suc, _+_, _-_, _*_}
 use native.Mathlib.Omega.{arith}

@@ -1,4 +1,5 @@
--- `gaps::gap` meets its contract: a compared cell is read from the output and from paid. Assumes nothing.
+-- `gaps::gap` meets its contract: a compared cell is read from the output and from paid. Assumes
+-- nothing.
 use mathlib.Core.Path.{_≡_, sym, _∙_}
 use mathlib.Core.Bool.{true}
 use mathlib.Core.List.{List}

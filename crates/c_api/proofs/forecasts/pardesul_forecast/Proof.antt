@@ -1,4 +1,5 @@
--- `pardesul_forecast` meets its contract: the output is the forecast's, and the left overs are stored where it is accepted. Assumes nothing.
+-- `pardesul_forecast` meets its contract: the output is the forecast's, and the leftovers are
+-- stored where it is accepted. Assumes nothing.
 use borrow.Author.Needs.{needs}
 use borrow.Author.Tests.{ne-eqb}
 use mathlib.Core.Path.{sym, ap, _∙_}

@@ -1,4 +1,5 @@
--- `pardesul_shares` meets its contract: a refusal stores nothing, and an accepted file stores the answer. Assumes nothing.
+-- `pardesul_shares` meets its contract: a refusal stores nothing, and an accepted file stores the
+-- answer. Assumes nothing.
 use borrow.Author.Needs.{needs}
 use borrow.Author.Tests.{ne-eqb}
 use mathlib.Core.Path.{sym, ap, _∙_}

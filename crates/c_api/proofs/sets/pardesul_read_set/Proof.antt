@@ -1,4 +1,5 @@
--- `pardesul_read_set` meets its contract: a refusal stores nothing, and an accepted file stores the answer. Assumes nothing.
+-- `pardesul_read_set` meets its contract: a refusal stores nothing, and an accepted file stores the
+-- answer. Assumes nothing.
 use borrow.Author.Needs.{needs}
 use borrow.Author.Tests.{ne-eqb}
 use mathlib.Core.Path.{_≡_, refl, sym, ap, _∙_}

@@ -1,5 +1,5 @@
--- `cells::cell::pair_sum` meets its contract. The loop's invariant: what is summed so far are the terms below k.
--- Assumes nothing.
+-- `cells::cell::pair_sum` meets its contract. The loop's invariant: what is summed so far are the
+-- terms below k. Assumes nothing.
 use mathlib.Core.Path.{_≡_, sym, _∙_, ap}
 use mathlib.Core.Logic.{⊎-elim}
 use Prim.Native.Nat.{ℕ, _+_, _-_, _<_}

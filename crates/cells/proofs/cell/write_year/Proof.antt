@@ -1,5 +1,5 @@
--- `cells::cell::write_year` meets its contract. The loop's invariant: the entries of the delays below j are written.
--- Assumes nothing.
+-- `cells::cell::write_year` meets its contract. The loop's invariant: the entries of the delays
+-- below j are written. Assumes nothing.
 use mathlib.Core.Path.{_≡_, sym, _∙_, ap, ap₂}
 use mathlib.Core.List.{List}
 use Prim.Native.Nat.{ℕ, _+_, _-_, _*_, _≤_}

@@ -1,5 +1,5 @@
--- `cells::weights::actual_weights` meets its contract. The loop's invariant: the first k weights are in their places.
--- Assumes nothing.
+-- `cells::weights::actual_weights` meets its contract. The loop's invariant: the first k weights
+-- are in their places. Assumes nothing.
 use mathlib.Core.Path.{_≡_, sym, _∙_, ap₂}
 use mathlib.Core.List.{List}
 use Prim.Native.Nat.{ℕ, _+_, _-_, _^_, _≤_}

@@ -1,6 +1,6 @@
--- `cells::years::cell_forecast` meets its contract. The loop's invariant: the entries of the first n years are written, and the sums are those of the reporting
--- delays that year n + 1 has not reported.
--- Assumes nothing.
+-- `cells::years::cell_forecast` meets its contract. The loop's invariant: the entries of the first
+-- n years are written, and the sums are those of the reporting delays that year n + 1 has not
+-- reported. Assumes nothing.
 use mathlib.Core.Path.{_≡_, sym, _∙_, ap}
 use mathlib.Core.List.{List}
 use Prim.Native.Nat.{ℕ, _+_, _-_, _*_, _≤_, _<_}

@@ -1,5 +1,5 @@
--- `cells::years::one_more_delay` meets its contract. The loop's invariant: the payment delays below l are added.
--- Assumes nothing.
+-- `cells::years::one_more_delay` meets its contract. The loop's invariant: the payment delays below
+-- l are added. Assumes nothing.
 use mathlib.Core.Path.{_≡_, _∙_, ap}
 use mathlib.Core.List.{List}
 use Prim.Native.Nat.{_+_, _-_, _≤_, _<_}

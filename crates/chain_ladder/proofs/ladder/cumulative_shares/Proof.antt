@@ -1,4 +1,5 @@
--- `cumulative_shares` meets its contract: the shares from delay j on are made, and are in their bounds. Assumes nothing.
+-- `cumulative_shares` meets its contract: the shares from delay j on are made, and are in their
+-- bounds. Assumes nothing.
 use mathlib.Core.Path.{_≡_, sym, _∙_, ap}
 use mathlib.Core.Bool.{true}
 use mathlib.Core.List.{List, []}

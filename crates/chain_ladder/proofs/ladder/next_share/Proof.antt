@@ -1,4 +1,5 @@
--- `next_share` meets its contract: a share past the cap and one below the least share are outside the bounds. Assumes nothing.
+-- `next_share` meets its contract: a share past the cap and one below the least share are outside
+-- the bounds. Assumes nothing.
 use mathlib.Core.Path.{_≡_, refl, sym, _∙_}
 use mathlib.Core.Bool.{false}
 use Prim.Native.Nat.{_*_, _^_, _≤_, _<_}

@@ -1,4 +1,5 @@
--- `forecast::set::forecast_prepared` meets its contract: the row bases, and then the cells. Assumes nothing.
+-- `forecast::set::forecast_prepared` meets its contract: the row bases, and then the cells. Assumes
+-- nothing.
 use mathlib.Core.Path.{_≡_, sym, _∙_, ap}
 use mathlib.Core.List.{List}
 use Prim.Native.Nat.{ℕ}

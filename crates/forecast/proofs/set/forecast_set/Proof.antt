@@ -1,4 +1,5 @@
--- `forecast::set::forecast_set` meets its contract: what the methods share, and then the forecast from it. Assumes nothing.
+-- `forecast::set::forecast_set` meets its contract: what the methods share, and then the forecast
+-- from it. Assumes nothing.
 use mathlib.Core.Path.{_≡_, sym, _∙_, ap, ap₂}
 use mathlib.Core.List.{List}
 use Prim.Native.Nat.{ℕ}

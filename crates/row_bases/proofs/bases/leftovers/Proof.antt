@@ -1,5 +1,5 @@
--- `row_bases::bases::leftovers` meets its contract. The loop's invariant: the left overs of the first k years are in their places.
--- Assumes nothing.
+-- `row_bases::bases::leftovers` meets its contract. The loop's invariant: the leftovers of the
+-- first k years are in their places. Assumes nothing.
 use mathlib.Core.Path.{_≡_, sym}
 use Prim.Native.Nat.{_-_, _≤_}
 use native.Mathlib.Omega.{arith}

@@ -1,5 +1,5 @@
--- `row_bases::bases::row_bases` meets its contract. The loop's invariant: the bases of the first k years are in range and in their places.
--- Assumes nothing.
+-- `row_bases::bases::row_bases` meets its contract. The loop's invariant: the bases of the first k
+-- years are in range and in their places. Assumes nothing.
 use borrow.Author.Needs.{needs}
 use mathlib.Core.Path.{_≡_, sym, _∙_, ap₂}
 use mathlib.Core.List.{List}

@@ -1,4 +1,4 @@
--- Laws of questions 1 and 2, and how large m(m+1) is. Assumes nothing.
+-- Laws of questions 1 and 2, how large m(m+1) is, and how many kinds there are. Assumes nothing.
 use Prim.Native.Nat.{ℕ, _+_, _*_, _<_, _≤_}
 use native.Mathlib.Nat.{mul-le-mul}
 use native.Mathlib.Omega.{arith}
@@ -10,7 +10,7 @@ use lib.Dec.{leb, eqb}
 use lib.ListN.{length}
 use Rattle.model.specs.ListsLaws.{and-left, and-right}
 use Rattle.model.specs.Records.{setLength, hasIncurred}
-use Rattle.model.specs.Questions.{q1, q2}
+use Rattle.model.specs.Questions.{q1, q2, kinds}
 use Rattle.model.specs.Tests.{by-test}
 
 pub cells-most : (m : ℕ) → m ≤ 20 → m * (m + 1) ≤ 420
@@ -18,6 +18,15 @@ cells-most m hi = let h : m + 1 ≤ 21 = omega arith in mul-le-mul hi h
 
 cells-least : (m : ℕ) → 2 ≤ m → 6 ≤ m * (m + 1)
 cells-least m lo = let h : 3 ≤ m + 1 = omega arith in mul-le-mul lo h
+
+pub set-most : (m : ℕ) (there : Bool) → m ≤ 20 → setLength m there ≤ 10080
+set-most m true hi = omega (arith, cells-most m hi)
+set-most m false hi = omega (arith, cells-most m hi)
+
+pub kinds-range : (there : Bool) → (2 ≤ kinds there) × (kinds there ≤ 3)
+unfolding kinds
+kinds-range true = (omega arith, omega arith)
+kinds-range false = (omega arith, omega arith)
 
 -- ---- question 1
 

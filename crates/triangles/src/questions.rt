@@ -1,4 +1,5 @@
-// Question 3 of the first n records of a file, question 5 of a record, and the writer's question 5.
+// How many records a set has, question 3 of the first n records of a file, question 5 of a value, and
+// the writer's question 5.
 use crate::fields;
 ghost use mathlib.Core.Path.{_≡_};
 ghost use mathlib.Core.Bool.{_||_, not, cond};
@@ -7,9 +8,9 @@ ghost use lib.Dec.{ltb, eqb};
 ghost use lib.IntN.{pos, negsuc};
 ghost use lib.ListN.{length};
 ghost use Rattle.model.specs.Lists.{every};
-ghost use Rattle.model.specs.Records.{cell, inRange};
+ghost use Rattle.model.specs.Records.{cell, inRange, setLength};
 ghost use Rattle.model.specs.Questions.{kinds, eachCell, q5Writer};
-ghost use Rattle.triangles.specs.OneRecord.{wellFormed, ranged};
+ghost use Rattle.triangles.specs.OneRecord.{wellFormed};
 ghost use Rattle.triangles.specs.Places.{insideAt};
 
 // The number of kinds of a set.
@@ -20,6 +21,14 @@ pub fn kinds(has_incurred: bool) -> usize
         return 3;
     }
     2
+}
+
+// The number of records of a set.
+pub fn set_records(m: usize, has_incurred: bool) -> usize
+    requires { ⌜ m ≤ 20 ⌝ }
+    ensures { λ r. ⌜ 16 * r ≡ setLength m «has_incurred» ⌝ }
+{
+    kinds(has_incurred) * (m * (m + 1) / 2)
 }
 
 // Question 3 of one record, where there are `kinds` kinds.
@@ -82,14 +91,6 @@ pub fn in_range(kind: usize, v: i64) -> bool
         return v <= highest(kind);
     }
     false
-}
-
-// Question 5 of one record.
-pub fn value_ok(file: &[u8], k: usize) -> bool
-    requires { ⌜ 16 * k + 16 ≤ length (now file) ⌝ }
-    ensures { λ r. ⌜ r ≡ ranged (now (file .entry)) k ⌝ }
-{
-    in_range(fields::byte(file, 16 * k), fields::value(file, k))
 }
 
 // Whether place p is a cell of a triangle of m years.

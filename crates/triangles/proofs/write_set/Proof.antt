@@ -5,7 +5,7 @@ use borrow.Author.Tests.{not-true, not-false}
 use mathlib.Core.Path.{_≡_, sym, _∙_}
 use mathlib.Core.Bool.{true}
 use Rattle.model.specs.Questions.{q1, q5Writer}
-use Rattle.model.specs.Lengths.{size-yes, size-low, size-high}
+use Rattle.model.specs.Lengths.{set-most, size-yes, size-low, size-high}
 use Rattle.triangles.specs.RoundTrip.{length-set}
 use Rattle.triangles.proofs.Writing.{no-1, no-5, no-7, yes}
 use Rattle.triangles.proofs.write_set.Statement.{statement}
@@ -31,20 +31,23 @@ set-ok-requires c κs = search needs
 returns-3 : tie.Need-returns-3
 returns-3 c = no-5 _ _ _ _ _ _ (size (c .before .before)) (sym (c .before .set-ok .ensures) ∙ not-true _ (c .if3 .taken))
 
-set-length-requires : tie.Need-set-length-requires
-set-length-requires c κs = search needs
+set-records-requires : tie.Need-set-records-requires
+set-records-requires c κs = search needs
+
+mul-if4 : tie.Need-mul-if4
+mul-if4 c = omega (arith, set-most _ (c .before .before .before .before .before .before .args .has-incurred) (c .before .before .before .if2 .left), c .set-records .ensures)
 
 returns-4 : tie.Need-returns-4
 returns-4 c =
     let d = c .before .before in
-    no-7 _ _ _ _ _ _ (size (d .before .before)) (ranges d) (omega (arith, c .if4 .taken, c .before .set-length .ensures))
+    no-7 _ _ _ _ _ _ (size (d .before .before)) (ranges d) (omega (arith, c .if4 .taken, c .before .set-records .ensures))
 
 put-set-requires : tie.Need-put-set-requires
 put-set-requires c κs =
     let e = c .before in
     let d = e .before .before in
     let s = d .before .before .before .before .before .args in
-    omega (arith, e .if4 .left, e .before .set-length .ensures, length-set (s .m) (s .counts) (s .paid) (s .incurred) (size (d .before .before)) (s .has-incurred))
+    omega (arith, e .if4 .left, e .before .set-records .ensures, length-set (s .m) (s .counts) (s .paid) (s .incurred) (size (d .before .before)) (s .has-incurred))
 
 same-length : tie.Need-same-length
 same-length c = search needs
@@ -54,7 +57,7 @@ returns-5 c =
     let f = c .before .before in
     let e = f .before .before in
     let d = e .before .before in
-    yes _ _ _ _ _ _ (size (d .before .before)) (ranges d) _ (omega (arith, e .if4 .left, e .before .set-length .ensures)) (f .put-set .ensures)
+    yes _ _ _ _ _ _ (size (d .before .before)) (ranges d) _ (omega (arith, e .if4 .left, e .before .set-records .ensures)) (f .put-set .ensures)
 
 pub write-set-spec : {M : Type 1} → statement M
 write-set-spec =
@@ -64,7 +67,8 @@ write-set-spec =
     returns-2
     set-ok-requires
     returns-3
-    set-length-requires
+    set-records-requires
+    mul-if4
     returns-4
     put-set-requires
     same-length

@@ -8,11 +8,12 @@ ghost use mathlib.Core.Path.{_≡_};
 ghost use mathlib.Core.Bool.{true};
 ghost use Rattle.model.specs.Records.{records, hasIncurred};
 ghost use Rattle.model.specs.Questions.{q1, q2};
-ghost use Rattle.model.specs.Calls.{noSet, readAnswer, Wrote};
+ghost use Rattle.triangles.specs.Answers.{refusedRead};
+ghost use Rattle.model.specs.Calls.{readAnswer, Wrote};
 
 // A refusal, with zeros beside it.
 fn refused(number: u64) -> model::ReadAnswer
-    ensures { λ r. ⌜ r ≡ record { refusal = number; set = noSet } ⌝ }
+    ensures { λ r. ⌜ r ≡ refusedRead number ⌝ }
 {
     let none = [0i64; 400];
     model::ReadAnswer {

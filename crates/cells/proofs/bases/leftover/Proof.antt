@@ -5,7 +5,7 @@ use lib.IntN.{_-ℤ_}
 use mir.Syntax.{w64}
 use mir.Val.{SFits, ofZ}
 use mir.Facts.{toZ-ofZ}
-use Rattle.arithmetic.proofs.Words.{fits-abs}
+use Rattle.arithmetic.specs.Words.{fits-abs}
 use Rattle.cells.proofs.Words.{equal-words}
 use Rattle.cells.specs.BasesLaws.{left-none, left-settled, left-open, incurred-small, reserve-pos}
 use Rattle.cells.proofs.bases.leftover.Statement.{statement}

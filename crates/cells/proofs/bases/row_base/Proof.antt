@@ -8,7 +8,7 @@ use mir.Val.{SFits, ofZ}
 use mir.Facts.{toZ-ofZ}
 use Rattle.integers.specs.Parts.{_⋖_}
 use Rattle.arithmetic.specs.Capped.{capped-within}
-use Rattle.arithmetic.proofs.Words.{fits-abs}
+use Rattle.arithmetic.specs.Words.{fits-abs}
 use Rattle.cells.proofs.Words.{equal-words}
 use Rattle.cells.specs.BasesLaws.{base-paid, base-incurred, base-settled, base-open, incurred-small, reserve-small, reserve-pos}
 use Rattle.cells.proofs.bases.row_base.Statement.{statement}

@@ -1,10 +1,9 @@
 -- `by_key` meets its contract: each flag says how often its key stood there so far, and each place has the sum of its key. Assumes nothing.
 use native.Mathlib.Omega.{arith}
-use native.Mathlib.Numerals.{add-one}
 use borrow.Author.Needs.{needs}
 use borrow.Author.Tests.{le-leb, lt-leb}
 use mathlib.Core.Path.{_≡_, refl, sym, _∙_, ap₂}
-use mathlib.Core.Bool.{Bool, _&&_, true≢false}
+use mathlib.Core.Bool.{true≢false}
 use mathlib.Core.List.{List}
 use Prim.Native.Nat.{ℕ, zero, suc, _+_, _≤_, _<_, _-_}
 use mir.Syntax.{w64}
@@ -12,7 +11,7 @@ use mir.Val.{SFits}
 use mir.Facts.{toZ-ofZ}
 use denote.Ref.{now}
 use Rattle.model.specs.Lists.{every}
-use Rattle.model.specs.ListsLaws.{every-none, every-no, every-all}
+use Rattle.model.specs.ListsLaws.{every-none, every-next, every-no, every-all}
 use Rattle.model.specs.Records.{inRange}
 use Rattle.triangles.specs.OneRecord.{ranged}
 use Rattle.triangles.specs.Keys.{keyAt, keyCount}
@@ -49,11 +48,6 @@ module _ (c : tie.After-key Inv-loop μ-loop) where
 above : (x y z : ℕ) → x ≡ y → (x ≡ 0 → ⊥) → y + 1 ≤ z → 1 < z
 above zero y z e n l = absurd (n refl)
 above (suc x) y z e n l = omega arith
-
--- one answer more
-every-next : (p : ℕ → Bool) (k : ℕ) {a b : Bool} → a ≡ every k p → b ≡ p k → (a && b) ≡ every (k + 1) p
-unfolding every
-every-next p k e f = rw (add-one, e, f)
 
 loop-holds : tie.Need-loop-holds Inv-loop μ-loop
 loop-holds c = (search needs, flags-none _, rw (c .before .pre .1 .1) (cells-none _), sym (every-none _))

@@ -84,7 +84,7 @@ unfolding ∣_∣
 twice (pos n) b h k = h
 twice (negsuc n) b h k = nlin (negsuc n ∷ b ∷ []) {G = pos 2 *ℤ negℤ (negsuc n) ⩽ b} k (search nstmt depth 20) (omega arith)
 
--- "the nearest whole number": within one half
+-- r is within one half
 pub r-near : WithinHalf r
 r-near = record {
   near = λ a b h.
@@ -146,7 +146,7 @@ r-quotient q c b h l u =
     (nlin (q ∷ c ∷ b ∷ []) l (search nstmt depth 20) (omega arith))
     (nlin (q ∷ c ∷ b ∷ []) u (search nstmt depth 20) (omega arith))
 
--- a remainder from half of b on: "halves go away from zero"
+-- a remainder from half of b on, above zero
 pub r-next : (q c b : ℤ) → pos 0 ⋖ b → pos 0 ⩽ q *ℤ c → c ⋖ b → b ⩽ pos 2 *ℤ c → r (q *ℤ b +ℤ c) b ≡ q +ℤ pos 1
 unfolding r nearest
 r-next q c (negsuc b) h s l u = absurd (h .lt)

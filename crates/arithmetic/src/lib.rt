@@ -1,4 +1,4 @@
-// Rounded quotients of whole numbers, also past 64 bits: document 01, "Rounding".
+// Rounded quotients of whole numbers, also past 64 bits (01, Rounding).
 
 ghost use mathlib.Core.Path.{_≡_};
 ghost use mathlib.Core.Bool.{true};
@@ -79,8 +79,8 @@ pub fn magnitude(a: i64) -> u64
     a as u64
 }
 
-// The rounding of a quotient and a remainder of magnitudes, which stand for a number below zero where
-// `negative` says so.
+// The rounding of a quotient and a remainder of magnitudes, which stand for a number below zero
+// where `negative` says so.
 fn round_signed(negative: bool, q: u64, rem: u64, d: i64) -> i64
     requires { ⌜ (pos 0 ⋖ d) × (natAbs d ≤ 10 ^ 18) × (rem < natAbs d) × (q ≤ 10 ^ 18) ⌝ }
     ensures { λ k. ⌜ k ≡ r (signed negative (q * natAbs d + rem)) d ⌝ }
@@ -153,7 +153,8 @@ fn round_narrow(a: i64, x: i64, d: i64) -> i64
     round_div(a * x, d)
 }
 
-// The whole number nearest to a × x / d, where that is below 2^48; p is the product of the magnitudes.
+// The whole number nearest to a × x / d, where that is below 2^48; p is the product of the
+// magnitudes.
 fn round_wide(a: i64, x: i64, p: Wide, d: i64) -> i64
     requires { ⌜ Product (natAbs a * natAbs x) (p .top) (p .mid) (p .low) ⌝ }
     requires { ⌜ (p .top / 65536 < natAbs d) × (pos 0 ⋖ d) × (natAbs d < 2 ^ 48) ⌝ }

@@ -1,11 +1,11 @@
 -- Laws of questions 1 and 2, how large m(m+1) is, and how many kinds there are. Assumes nothing.
-use Prim.Native.Nat.{ℕ, _+_, _*_, _<_, _≤_}
+use Prim.Native.Nat.{ℕ, _+_, _*_, _≤_}
 use native.Mathlib.Nat.{mul-le-mul}
 use native.Mathlib.Omega.{arith}
 use mathlib.Core.Path.{_≡_, sym, _∙_}
 use mathlib.Core.Bool.{Bool, true, false, or-false, or-true}
 use mathlib.Core.List.{List}
-use borrow.Author.Tests.{le-leb, lt-leb, leb-true, eq-eqb, ne-eqb, eqb-true}
+use borrow.Author.Tests.{leb-true, eq-eqb, ne-eqb, eqb-true}
 use lib.Dec.{leb, eqb}
 use lib.ListN.{length}
 use Rattle.model.specs.ListsLaws.{and-left, and-right}
@@ -30,21 +30,9 @@ kinds-range false = (omega arith, omega arith)
 
 -- ---- question 1
 
-pub size-yes : (m : ℕ) → 2 ≤ m → m ≤ 20 → q1 m ≡ true
-unfolding q1
-size-yes m lo hi = rw (le-leb 2 m lo, le-leb m 20 hi)
-
 pub size-so : (m : ℕ) → q1 m ≡ true → (2 ≤ m) × (m ≤ 20)
 unfolding q1
 size-so m e = (leb-true 2 m (and-left (leb 2 m) (leb m 20) e), leb-true m 20 (and-right (leb 2 m) (leb m 20) e))
-
-pub size-low : (m : ℕ) → m < 2 → q1 m ≡ false
-unfolding q1
-size-low m h = rw (lt-leb 2 m h)
-
-pub size-high : (m : ℕ) → 20 < m → q1 m ≡ false
-unfolding q1
-size-high m h = rw (le-leb 2 m (omega arith), lt-leb m 20 h)
 
 -- ---- question 2
 

@@ -1,5 +1,5 @@
-// The functions of `arithmetic` over plain numbers, as a test or a benchmark in another language calls
-// them. Outside its range a function answers OUTSIDE.
+// The functions of `arithmetic` over plain numbers, as a test or a benchmark in another language
+// calls them. Outside its range a function answers OUTSIDE.
 
 ghost use mathlib.Core.Path.{_≡_};
 ghost use Rattle.model.specs.Questions.{within};

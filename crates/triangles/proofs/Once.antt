@@ -1,5 +1,5 @@
--- Question 4 by the keys. A file of the right length whose records are well formed has each cell once
--- where no key stands twice: its records are as many as the set's cells. Assumes nothing.
+-- Question 4 by the keys. A file of the right length whose records are well formed has each cell
+-- once where no key stands twice: its records are as many as the set's cells. Assumes nothing.
 use Prim.Native.Nat.{ℕ, zero, suc, _+_, _-_, _*_, _/_, _%_, _<_, _≤_}
 use native.Mathlib.Numerals.{add-one}
 use native.Mathlib.Omega.{arith}

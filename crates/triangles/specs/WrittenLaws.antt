@@ -1,4 +1,5 @@
--- Laws of Written: a record that is written is read back, and each cell of the set stands in one record. Assumes nothing.
+-- Laws of Written: a record that is written is read back, and each cell of the set stands in one
+-- record. Assumes nothing.
 use Prim.Native.Nat.{ℕ, zero, suc, _+_, _-_, _*_, _/_, _%_, _^_, _<_, _≤_}
 use native.Mathlib.Omega.{arith}
 use mathlib.Core.Path.{_≡_, refl, sym, ap, _∙_}

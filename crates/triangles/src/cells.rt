@@ -15,8 +15,8 @@ pub struct CellAnswers {
 }
 
 // Question 4, that no key stands twice among the first n records; where none does, question 5 and
-// the values, each at its key, with zeros in the other places. As the file is as long as a set, each
-// cell then stands there once.
+// the values, each at its key, with zeros in the other places. As the file is as long as a set,
+// each cell then stands there once.
 pub fn by_key(file: &[u8], n: usize, values: &mut [i64; 1200]) -> CellAnswers
     requires { ⌜ 16 * n ≤ length (now file) ⌝ }
     requires { ⌜ Keyed (now file) n ⌝ }

@@ -13,7 +13,7 @@ pub fn byte(file: &[u8], at: usize) -> usize
     file[at] as usize
 }
 
-// Two, four and eight bytes, least byte first.
+// Numbers of two, four and eight bytes, the lowest in front.
 fn two(file: &[u8], at: usize) -> usize
     requires { ⌜ at + 2 ≤ length (now file) ⌝ }
     ensures { λ r. ⌜ (r ≡ leastFirst 2 (now (file .entry)) at) × (r < 65536) ⌝ }
@@ -62,7 +62,7 @@ pub fn spares_zero(file: &[u8], k: usize) -> bool
     four(file, at + 3) + byte(file, at + 7) == 0
 }
 
-// A number of 64 bits read as two's complement.
+// A word read with a sign.
 fn to_signed(x: usize) -> i64
     ensures { λ r. ⌜ r ≡ signed x ⌝ }
 {

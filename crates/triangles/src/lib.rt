@@ -1,4 +1,4 @@
-// The reader and the writer of triangle sets: document 01, "Triangle records".
+// The reader and the writer of triangle sets (01, Triangle records).
 mod cells;
 mod fields;
 mod questions;
@@ -62,10 +62,7 @@ fn read_records(file: &[u8], m: usize, has_incurred: bool, n: usize) -> model::R
 pub fn read_set(file: &[u8], m: usize) -> model::ReadAnswer
     ensures { λ r. ⌜ r ≡ readAnswer m (now (file .entry)) ⌝ }
 {
-    if m < 2 {
-        return refused(1);
-    }
-    if 20 < m {
+    if !questions::size_ok(m) {
         return refused(1);
     }
     let two = questions::set_records(m, false);
@@ -90,10 +87,7 @@ pub fn write_set(
 ) -> u64
     ensures { λ r. ⌜ Wrote m «has_incurred» counts paid incurred (now (out .entry)) (now (out .exit)) r ⌝ }
 {
-    if m < 2 {
-        return 1;
-    }
-    if 20 < m {
+    if !questions::size_ok(m) {
         return 1;
     }
     if !questions::set_ok(m, has_incurred, counts, paid, incurred) {

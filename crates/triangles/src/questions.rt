@@ -1,5 +1,5 @@
-// How many records a set has, question 3 of the first n records of a file, question 5 of a value, and
-// the writer's question 5.
+// Question 1, how many records a set has, question 3 of the first n records of a file, question 5 of
+// a value, and the writer's question 5.
 use crate::fields;
 ghost use mathlib.Core.Path.{_≡_};
 ghost use mathlib.Core.Bool.{_||_, not, cond};
@@ -9,9 +9,19 @@ ghost use lib.IntN.{pos, negsuc};
 ghost use lib.ListN.{length};
 ghost use Rattle.model.specs.Lists.{every};
 ghost use Rattle.model.specs.Records.{cell, inRange, setLength};
-ghost use Rattle.model.specs.Questions.{kinds, eachCell, q5Writer};
+ghost use Rattle.model.specs.Questions.{q1, kinds, eachCell, q5Writer};
 ghost use Rattle.triangles.specs.OneRecord.{wellFormed};
 ghost use Rattle.triangles.specs.Places.{insideAt};
+
+// Question 1.
+pub fn size_ok(m: usize) -> bool
+    ensures { λ r. ⌜ r ≡ q1 m ⌝ }
+{
+    if m < 2 {
+        return false;
+    }
+    m <= 20
+}
 
 // The number of kinds of a set.
 pub fn kinds(has_incurred: bool) -> usize

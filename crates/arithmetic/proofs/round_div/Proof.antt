@@ -1,4 +1,5 @@
--- `arithmetic::round_div` meets its contract: the machine's quotient and remainder are what `round_quotient` asks. Assumes nothing.
+-- `arithmetic::round_div` meets its contract: the machine's quotient and remainder are what
+-- `round_quotient` asks. Assumes nothing.
 use mathlib.Core.Path.{_≡_, ap, _∙_}
 use mathlib.Core.List.{[], _∷_}
 use Prim.Native.Nat.{ℕ, suc, _*_, _/_, _%_, _≤_, _<_}

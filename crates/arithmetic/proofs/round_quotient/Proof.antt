@@ -1,4 +1,5 @@
--- `arithmetic::round_quotient` meets its contract: each test is one of the laws' cases of the remainder. Assumes nothing.
+-- `arithmetic::round_quotient` meets its contract: each test is one of the laws' cases of the
+-- remainder. Assumes nothing.
 use mathlib.Core.Path.{_≡_, sym}
 use mathlib.Core.List.{[], _∷_}
 use Prim.Native.Nat.{_+_, _*_, _<_}

@@ -1,4 +1,5 @@
--- `by_key` meets its contract: each flag says how often its key stood there so far, and each place has the sum of its key. Assumes nothing.
+-- `by_key` meets its contract: each flag says how often its key stood there so far, and each place
+-- has the sum of its key. Assumes nothing.
 use native.Mathlib.Omega.{arith}
 use borrow.Author.Needs.{needs}
 use borrow.Author.Tests.{le-leb, lt-leb}

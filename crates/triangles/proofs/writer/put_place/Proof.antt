@@ -1,4 +1,4 @@
--- `put_place` meets its contract: the bytes of the place are those of a record, or none. Assumes nothing.
+-- `put_place` meets its contract: a place has the bytes of a record, or none. Assumes nothing.
 use borrow.Author.Needs.{needs}
 use native.Mathlib.Omega.{arith}
 use Prim.Native.Nat.{ℕ, _+_}

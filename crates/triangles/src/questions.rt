@@ -1,5 +1,5 @@
-// Question 1, how many records a set has, question 3 of the first n records of a file, question 5 of
-// a value, and the writer's question 5.
+// Question 1, how many records a set has, question 3 of the first n records of a file, question 5
+// of a value, and the writer's question 5.
 use crate::fields;
 ghost use mathlib.Core.Path.{_≡_};
 ghost use mathlib.Core.Bool.{_||_, not, cond};

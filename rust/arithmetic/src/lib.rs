@@ -1,5 +1,5 @@
-//! The proved functions of the crate `arithmetic`, through the probes, beside plain Rust with 128-bit
-//! numbers.
+//! The proved functions of the crate `arithmetic`, through the probes, beside plain Rust with
+//! 128-bit numbers.
 
 /// What a probe answers outside its range.
 pub const OUTSIDE: i64 = i64::MIN;

@@ -1,5 +1,5 @@
-//! Each proved function against a calculation with 128-bit numbers, on random numbers, ends of ranges,
-//! exact halves and caps.
+//! Each proved function against a calculation with 128-bit numbers, on random numbers, ends of
+//! ranges, exact halves and caps.
 use arithmetic::{proved, Numbers, LARGEST_SHARE, OUTSIDE, SCALE, TOO_LARGE};
 
 const ROUNDS: usize = 4_000_000;

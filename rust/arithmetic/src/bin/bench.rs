@@ -1,5 +1,6 @@
 //! Nanoseconds of a call, proved code against plain Rust with i128, on the same numbers in one run.
-//! Both sides test the same ranges and are calls that are not inlined. A number is the least of many passes.
+//! Both sides test the same ranges and are calls that are not inlined. A number is the least of
+//! many passes.
 use arithmetic::{plain, proved, Numbers};
 use std::{hint::black_box, time::Instant};
 

@@ -3,7 +3,7 @@
 use crate::fields;
 ghost use mathlib.Core.Path.{_≡_};
 ghost use mathlib.Core.Bool.{_||_, not, cond};
-ghost use Prim.Native.Nat.{_+_, _-_, _*_, _^_, _≤_};
+ghost use Prim.Native.Nat.{_+_, _-_, _*_, _^_, _≤_, _<_};
 ghost use lib.Dec.{ltb, eqb};
 ghost use lib.IntN.{pos, negsuc};
 ghost use lib.ListN.{length};
@@ -74,27 +74,28 @@ pub fn records_ok(file: &[u8], m: usize, kinds: usize, n: usize) -> bool
     true
 }
 
-// The bounds of question 5.
+// The bounds of question 5, by kind.
+const LOWEST: [i64; 3] = [0, 0, -10000000000];
+
+const HIGHEST: [i64; 3] = [10000000, 10000000000, 10000000000];
+
 fn lowest(kind: usize) -> i64
+    requires { ⌜ kind < 3 ⌝ }
     ensures { λ r. ⌜ r ≡ cond (ltb kind 2) (pos 0) (negsuc (10 ^ 10 - 1)) ⌝ }
 {
-    if kind < 2 {
-        return 0;
-    }
-    -10000000000
+    LOWEST[kind]
 }
 
 fn highest(kind: usize) -> i64
+    requires { ⌜ kind < 3 ⌝ }
     ensures { λ r. ⌜ r ≡ pos (cond (eqb kind 0) (10 ^ 7) (10 ^ 10)) ⌝ }
 {
-    if kind == 0 {
-        return 10000000;
-    }
-    10000000000
+    HIGHEST[kind]
 }
 
 // Question 5 of one value.
 pub fn in_range(kind: usize, v: i64) -> bool
+    requires { ⌜ kind < 3 ⌝ }
     ensures { λ r. ⌜ r ≡ inRange kind v ⌝ }
 {
     if lowest(kind) <= v {
@@ -112,6 +113,7 @@ pub fn inside(m: usize, p: usize) -> bool
 
 // Question 5 of one place of a triangle.
 fn cell_ok(m: usize, kind: usize, p: usize, v: i64) -> bool
+    requires { ⌜ kind < 3 ⌝ }
     ensures { λ r. ⌜ r ≡ (not (insideAt m p) || inRange kind v) ⌝ }
 {
     if inside(m, p) {
@@ -122,7 +124,7 @@ fn cell_ok(m: usize, kind: usize, p: usize, v: i64) -> bool
 
 // Question 5 of the cells of a triangle.
 fn cells_ok(m: usize, kind: usize, cells: [i64; 400]) -> bool
-    requires { ⌜ m ≤ 20 ⌝ }
+    requires { ⌜ (m ≤ 20) × (kind < 3) ⌝ }
     ensures { λ r. ⌜ r ≡ eachCell m (λ i j. inRange kind (cell cells i j)) ⌝ }
 {
     let mut p = 0;

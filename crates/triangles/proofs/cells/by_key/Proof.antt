@@ -90,7 +90,7 @@ element-set-from-v : tie.Need-element-set-from-v Inv-loop μ-loop
 element-set-from-v c = below (c .before .before)
 
 in-range-requires : tie.Need-in-range-requires Inv-loop μ-loop
-in-range-requires c κs = search needs
+in-range-requires c κs = let b = c .before .before in omega (arith, b .key .ensures, below b)
 
 add-k : tie.Need-add-k Inv-loop μ-loop
 add-k c = omega arith

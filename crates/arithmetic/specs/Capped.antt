@@ -1,12 +1,12 @@
--- The answer of a function that hands a number back only up to a cap.
--- Assumes nothing.
-use mathlib.Core.Path.{_≡_, refl}
-use mathlib.Core.Bool.{Bool, true, false, cond}
+-- The answer of a function that hands a number back only up to a cap. Assumes nothing.
+use mathlib.Core.Path.{_≡_}
+use mathlib.Core.Bool.{cond}
 use Prim.Native.Nat.{ℕ, _≤_, _<_}
 use native.Mathlib.Omega.{arith}
 use borrow.Author.Tests.{leb-true, leb-false, le-leb, lt-leb}
 use lib.Dec.{leb}
 use lib.IntN.{ℤ, natAbs}
+use Rattle.model.specs.Tests.{by-test}
 use Rattle.arithmetic.specs.declared.Capped.{Capped}
 use Rattle.arithmetic.specs.declared.Capped.the-variants.{Within, TooLarge}
 
@@ -23,18 +23,14 @@ unfolding capped
 capped-over cap z h = rw (lt-leb (natAbs z) cap h)
 
 -- what each answer says of z
-within-by : (t : Bool) (cap : ℕ) (z k : ℤ) → leb (natAbs z) cap ≡ t → cond t (Within z) TooLarge ≡ Within k → (z ≡ k) × (natAbs z ≤ cap)
-within-by true cap z k t e = (cc, leb-true (natAbs z) cap t)
-within-by false cap z k t e = let n : _≡_ {A = ℕ} 0 1 = cc in absurd (omega arith)
-
 pub within-is : (cap : ℕ) (z k : ℤ) → capped cap z ≡ Within k → (z ≡ k) × (natAbs z ≤ cap)
 unfolding capped
-within-is cap z k e = within-by (leb (natAbs z) cap) cap z k refl e
-
-over-by : (t : Bool) (cap : ℕ) (z : ℤ) → leb (natAbs z) cap ≡ t → cond t (Within z) TooLarge ≡ TooLarge → cap < natAbs z
-over-by true cap z t e = let n : _≡_ {A = ℕ} 0 1 = cc in absurd (omega arith)
-over-by false cap z t e = leb-false (natAbs z) cap t
+within-is cap z k e =
+    by-test (leb (natAbs z) cap) (λ t. let w : Within z ≡ Within k = rw t at e in (cc, leb-true (natAbs z) cap t))
+    (λ t. let w : TooLarge ≡ Within k = rw t at e in let n : _≡_ {A = ℕ} 0 1 = cc in absurd (omega arith))
 
 pub over-is : (cap : ℕ) (z : ℤ) → capped cap z ≡ TooLarge → cap < natAbs z
 unfolding capped
-over-is cap z e = over-by (leb (natAbs z) cap) cap z refl e
+over-is cap z e =
+    by-test (leb (natAbs z) cap) (λ t. let w : Within z ≡ TooLarge = rw t at e in let n : _≡_ {A = ℕ} 0 1 = cc in absurd (omega arith))
+    (λ t. leb-false (natAbs z) cap t)

@@ -1,4 +1,6 @@
--- The laws of the rounding, and the definitions that the contracts cite.
+-- The laws of the rounding and of signed words, and the definitions that the contracts cite.
 pub mod RoundingLaws
 pub mod Signed
+pub mod Wide
 pub mod Capped
+pub mod Words

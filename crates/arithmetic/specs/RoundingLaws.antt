@@ -1,9 +1,8 @@
--- The laws of r, document 01's rounding. What stands above cites these by name and never opens r or nearest.
--- Of the laws only `r-next` and `r-previous`, its mirror, know how a half is rounded: each other law holds for any rounding to the nearest number that keeps the sign.
--- Assumes nothing.
+-- Laws of r. What stands above cites these by name and never opens r or nearest. Of the laws only
+-- `r-next` and its mirror `r-previous` know how a half is rounded: each other one holds for any
+-- rounding to the nearest number that keeps the sign. Assumes nothing.
 use mathlib.Core.Path.{_≡_, refl, sym, ap, _∙_}
 use mathlib.Core.Logic.{_⊎_, inl, inr}
-use mathlib.Core.Bool.{Bool, true, false, cond}
 use mathlib.Core.List.{[], _∷_}
 use Prim.Native.Nat.{ℕ, zero, suc, _+_, _*_, _/_, _%_, _≤_, _<_}
 use native.Mathlib.Nat.{mod-lt, div-add-mod', suc-mul}
@@ -19,21 +18,19 @@ use Rattle.integers.specs.Solver.{ring, form}
 use Rattle.integers.specs.Linear.{_&_}
 use Rattle.integers.specs.Monomials.{nlin, nstmt}
 use Rattle.integers.specs.Order.{<ℤ-or-≥, <ℤ-≤ℤ, <ℤ-suc, *ℤ-mono-r, ≤ℤ-antisym, nonneg, pos-mono, natAbs-≤, natAbs-mono, natAbs-negℤ}
-use Rattle.model.specs.Rounding.{nearest, r, WithinHalf}
 use Rattle.integers.specs.Absolute.{∣_∣}
+use Rattle.model.specs.Rounding.{nearest, r, WithinHalf}
+use Rattle.model.specs.Tests.{by-test}
 
 -- ---- in ℕ: twice the distance is at most b
 
-nearest-by : (t : Bool) (a b : ℕ) → 0 < b → ltb (2 * (a % b)) b ≡ t
-    → (2 * (cond t (a / b) (suc (a / b)) * b) ≤ 2 * a + b) × (2 * a ≤ 2 * (cond t (a / b) (suc (a / b)) * b) + b)
-nearest-by true a b h e = let l : 2 * (a % b) < b = ltb-true _ _ e in (omega (arith, div-add-mod' a b), omega (arith, div-add-mod' a b))
-nearest-by false a b h e =
-    let l : b ≤ 2 * (a % b) = ltb-false _ _ e in
-    (omega (arith, div-add-mod' a b, suc-mul (a / b) b), omega (arith, div-add-mod' a b, suc-mul (a / b) b, mod-lt a h))
-
 nearest-bounds : (a b : ℕ) → 0 < b → (2 * (nearest a b * b) ≤ 2 * a + b) × (2 * a ≤ 2 * (nearest a b * b) + b)
 unfolding nearest
-nearest-bounds a b h = nearest-by (ltb (2 * (a % b)) b) a b h refl
+nearest-bounds a b h =
+    by-test (ltb (2 * (a % b)) b)
+    (λ e. let l = ltb-true (2 * (a % b)) b e in rw e (omega (arith, div-add-mod' a b), omega (arith, div-add-mod' a b)))
+    (λ e. let l = ltb-false (2 * (a % b)) b e in
+    rw e (omega (arith, div-add-mod' a b, suc-mul (a / b) b), omega (arith, div-add-mod' a b, suc-mul (a / b) b, mod-lt a h)))
 
 nearest-zero : (b : ℕ) → 0 < b → nearest 0 b ≡ 0
 nearest-zero b h = go (nearest 0 b) (nearest-bounds 0 b h .0)
@@ -87,7 +84,7 @@ unfolding ∣_∣
 twice (pos n) b h k = h
 twice (negsuc n) b h k = nlin (negsuc n ∷ b ∷ []) {G = pos 2 *ℤ negℤ (negsuc n) ⩽ b} k (search nstmt depth 20) (omega arith)
 
--- "the nearest whole number": within one half
+-- r is within one half
 pub r-near : WithinHalf r
 r-near = record {
   near = λ a b h.
@@ -149,7 +146,7 @@ r-quotient q c b h l u =
     (nlin (q ∷ c ∷ b ∷ []) l (search nstmt depth 20) (omega arith))
     (nlin (q ∷ c ∷ b ∷ []) u (search nstmt depth 20) (omega arith))
 
--- a remainder from half of b on: "halves go away from zero"
+-- a remainder from half of b on, above zero
 pub r-next : (q c b : ℤ) → pos 0 ⋖ b → pos 0 ⩽ q *ℤ c → c ⋖ b → b ⩽ pos 2 *ℤ c → r (q *ℤ b +ℤ c) b ≡ q +ℤ pos 1
 unfolding r nearest
 r-next q c (negsuc b) h s l u = absurd (h .lt)

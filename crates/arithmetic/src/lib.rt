@@ -1,11 +1,13 @@
-// Rounded quotients of whole numbers, also past 64 bits: document 01's "Rounding".
+// Rounded quotients of whole numbers, also past 64 bits (01, Rounding).
 
 ghost use mathlib.Core.Path.{_≡_};
-ghost use Prim.Native.Nat.{_+_, _*_, _/_, _^_, _<_, _≤_};
+ghost use mathlib.Core.Bool.{true};
+ghost use Prim.Native.Nat.{_+_, _*_, _/_, _^_, _<_, _≤_, min};
 ghost use lib.IntN.{pos, natAbs, _*ℤ_, _+ℤ_};
 ghost use Rattle.integers.specs.Parts.{_⩽_, _⋖_};
 ghost use Rattle.model.specs.Rounding.{S, r};
 ghost use Rattle.arithmetic.specs.Signed.{signed};
+ghost use Rattle.arithmetic.specs.Wide.{Product};
 ghost use Rattle.arithmetic.specs.Capped.{capped};
 
 // A whole number, unless it lies past a cap.
@@ -30,12 +32,23 @@ struct Wide {
 // The base of a product's digits.
 const BASE: u64 = 65536;
 
-// S, and S squared.
-const SCALE: u64 = 1000000000;
+// S: shares are whole numbers of one part in S.
+pub const SCALE: i64 = 1000000000;
 
-const SQUARE: u64 = 1000000000000000000;
+// S without a sign, and its square.
+const UNSIGNED_SCALE: u64 = SCALE as u64;
 
-// The whole number nearest to (q × d + rem) / d, from a quotient and a remainder toward zero. This function alone knows how a half is rounded.
+const SQUARE: u64 = UNSIGNED_SCALE * UNSIGNED_SCALE;
+
+// The smaller of two numbers.
+pub fn smaller(a: usize, b: usize) -> usize
+    ensures { λ r. ⌜ r ≡ min a b ⌝ }
+{
+    if a < b { a } else { b }
+}
+
+// The whole number nearest to (q × d + rem) / d, from a quotient and a remainder toward zero. This
+// function alone knows how a half is rounded.
 pub fn round_quotient(q: i64, rem: i64, d: i64) -> i64
     requires { ⌜ (pos 0 ⋖ d) × (natAbs d ≤ 10 ^ 18) × (natAbs rem < natAbs d) × (pos 0 ⩽ q *ℤ rem) × (natAbs q ≤ 9 * 10 ^ 18) ⌝ }
     ensures { λ k. ⌜ k ≡ r (q *ℤ d +ℤ rem) d ⌝ }
@@ -55,15 +68,19 @@ pub fn round_div(a: i64, b: i64) -> i64
     round_quotient(a / b, a % b, b)
 }
 
-// A number without its sign.
+// A number without its sign, the least i64 too: one above that has an opposite.
 pub fn magnitude(a: i64) -> u64
-    requires { ⌜ natAbs a ≤ 9 * 10 ^ 18 ⌝ }
     ensures { λ m. ⌜ m ≡ natAbs a ⌝ }
 {
-    if a < 0 { (-a) as u64 } else { a as u64 }
+    if a < 0 {
+        let above = a + 1;
+        return (-above) as u64 + 1;
+    }
+    a as u64
 }
 
-// The rounding of a quotient and a remainder of magnitudes, which stand for a number below zero where `negative` says so.
+// The rounding of a quotient and a remainder of magnitudes, which stand for a number below zero
+// where `negative` says so.
 fn round_signed(negative: bool, q: u64, rem: u64, d: i64) -> i64
     requires { ⌜ (pos 0 ⋖ d) × (natAbs d ≤ 10 ^ 18) × (rem < natAbs d) × (q ≤ 10 ^ 18) ⌝ }
     ensures { λ k. ⌜ k ≡ r (signed negative (q * natAbs d + rem)) d ⌝ }
@@ -78,7 +95,7 @@ fn round_signed(negative: bool, q: u64, rem: u64, d: i64) -> i64
 // a × x, digit by digit of x.
 fn widening_mul(a: u64, x: u64) -> Wide
     requires { ⌜ (a < 2 ^ 48) × (x < 2 ^ 48) ⌝ }
-    ensures { λ p. ⌜ ((p .top * 65536 + p .mid) * 65536 + p .low ≡ a * x) × (p .mid < 65536) × (p .low < 65536) ⌝ }
+    ensures { λ p. ⌜ Product (a * x) (p .top) (p .mid) (p .low) ⌝ }
 {
     let low = a * (x % BASE);
     let mid = a * (x / BASE % BASE) + low / BASE;
@@ -92,7 +109,7 @@ fn widening_mul(a: u64, x: u64) -> Wide
 // The product of two magnitudes.
 fn wide_product(a: i64, x: i64) -> Wide
     requires { ⌜ (natAbs a < 2 ^ 48) × (natAbs x < 2 ^ 48) ⌝ }
-    ensures { λ p. ⌜ ((p .top * 65536 + p .mid) * 65536 + p .low ≡ natAbs a * natAbs x) × (p .mid < 65536) × (p .low < 65536) ⌝ }
+    ensures { λ p. ⌜ Product (natAbs a * natAbs x) (p .top) (p .mid) (p .low) ⌝ }
 {
     widening_mul(magnitude(a), magnitude(x))
 }
@@ -118,16 +135,55 @@ fn divide(p: Wide, d: u64) -> Quotient
     next_digit(s.q, s.rem, p.low, d)
 }
 
-// The whole number nearest to a × x / d, where that is below 2^48. A product that fits a word takes one division, so the smaller factor goes second.
+// Whether the product of a and x surely fits a word.
+fn is_narrow(a: i64, x: i64) -> bool
+    ensures { λ t. ⌜ (t ≡ true → natAbs (a *ℤ x) ≤ 8 * 10 ^ 18) ⌝ }
+{
+    if magnitude(a) > 8 * UNSIGNED_SCALE {
+        return false;
+    }
+    magnitude(x) <= UNSIGNED_SCALE
+}
+
+// The whole number nearest to a × x / d, where the product fits a word.
+fn round_narrow(a: i64, x: i64, d: i64) -> i64
+    requires { ⌜ (natAbs (a *ℤ x) ≤ 8 * 10 ^ 18) × (pos 0 ⋖ d) × (natAbs d < 2 ^ 48) ⌝ }
+    ensures { λ k. ⌜ k ≡ r (a *ℤ x) d ⌝ }
+{
+    round_div(a * x, d)
+}
+
+// The whole number nearest to a × x / d, where that is below 2^48; p is the product of the
+// magnitudes.
+fn round_wide(a: i64, x: i64, p: Wide, d: i64) -> i64
+    requires { ⌜ Product (natAbs a * natAbs x) (p .top) (p .mid) (p .low) ⌝ }
+    requires { ⌜ (p .top / 65536 < natAbs d) × (pos 0 ⋖ d) × (natAbs d < 2 ^ 48) ⌝ }
+    ensures { λ k. ⌜ k ≡ r (a *ℤ x) d ⌝ }
+{
+    let s = divide(p, magnitude(d));
+    round_signed((a < 0) != (x < 0), s.q, s.rem, d)
+}
+
+// The whole number nearest to a × x / d, where that is below 2^48. A product that fits a word takes
+// one division, so the smaller factor goes second.
 pub fn mul_div(a: i64, x: i64, d: i64) -> i64
     requires { ⌜ (natAbs a < 2 ^ 48) × (natAbs x < 2 ^ 48) × (pos 0 ⋖ d) × (natAbs d < 2 ^ 48) × (natAbs a * natAbs x < 2 ^ 48 * natAbs d) ⌝ }
     ensures { λ k. ⌜ k ≡ r (a *ℤ x) d ⌝ }
 {
-    if magnitude(a) <= 8 * SCALE && magnitude(x) <= SCALE {
-        return round_div(a * x, d);
+    if is_narrow(a, x) {
+        return round_narrow(a, x, d);
     }
-    let s = divide(wide_product(a, x), magnitude(d));
-    round_signed((a < 0) != (x < 0), s.q, s.rem, d)
+    round_wide(a, x, wide_product(a, x), d)
+}
+
+// A number where its magnitude is at most cap.
+fn up_to(cap: u64, k: i64) -> Capped
+    ensures { λ c. ⌜ c ≡ capped cap k ⌝ }
+{
+    if magnitude(k) > cap {
+        return Capped::TooLarge;
+    }
+    Capped::Within(k)
 }
 
 // The whole number nearest to a × x / d, where its magnitude is at most cap.
@@ -135,15 +191,14 @@ pub fn mul_div_capped(a: i64, x: i64, d: i64, cap: u64) -> Capped
     requires { ⌜ (natAbs a < 2 ^ 48) × (natAbs x < 2 ^ 48) × (pos 0 ⋖ d) × (natAbs d < 2 ^ 48) × (cap < 2 ^ 48) ⌝ }
     ensures { λ k. ⌜ k ≡ capped cap (r (a *ℤ x) d) ⌝ }
 {
+    if is_narrow(a, x) {
+        return up_to(cap, round_narrow(a, x, d));
+    }
     let p = wide_product(a, x);
     if p.top / BASE >= magnitude(d) {
         return Capped::TooLarge;
     }
-    let k = mul_div(a, x, d);
-    if magnitude(k) > cap {
-        return Capped::TooLarge;
-    }
-    Capped::Within(k)
+    up_to(cap, round_wide(a, x, p, d))
 }
 
 // v × x / S², by digits in base S.
@@ -151,10 +206,10 @@ fn divide_by_square(v: u64, x: u64) -> Quotient
     requires { ⌜ (v ≤ 2 * 10 ^ 14) × (x ≤ 9 * 10 ^ 18) ⌝ }
     ensures { λ s. ⌜ (s .q * 1000000000000000000 + s .rem ≡ v * x) × (s .rem < 1000000000000000000) × (s .q ≤ 10 ^ 18) ⌝ }
 {
-    let mid = v / SCALE * (x % SCALE) + v % SCALE * (x / SCALE);
-    let low = mid % SCALE * SCALE + v % SCALE * (x % SCALE);
+    let mid = v / UNSIGNED_SCALE * (x % UNSIGNED_SCALE) + v % UNSIGNED_SCALE * (x / UNSIGNED_SCALE);
+    let low = mid % UNSIGNED_SCALE * UNSIGNED_SCALE + v % UNSIGNED_SCALE * (x % UNSIGNED_SCALE);
     Quotient {
-        q: v / SCALE * (x / SCALE) + mid / SCALE + low / SQUARE,
+        q: v / UNSIGNED_SCALE * (x / UNSIGNED_SCALE) + mid / UNSIGNED_SCALE + low / SQUARE,
         rem: low % SQUARE,
     }
 }

@@ -12,6 +12,7 @@ use lib.Dec.{eqb, ltb, leb}
 use lib.IntN.{ℤ, pos, natAbs, _+ℤ_, +ℤ-idl, +ℤ-idr}
 use Rattle.integers.specs.Sums.{sum, sum-suc, sum-cong, sum-nothing, sum-natAbs}
 use Rattle.model.specs.Lists.{total}
+use Rattle.model.specs.ListsLaws.{total-ext}
 use Rattle.model.specs.Records.{cell}
 use Rattle.model.specs.BackTest.{cellwise, yearGap, yearwise, overall}
 use Rattle.model.specs.Tests.{by-test}
@@ -30,11 +31,6 @@ pub total-small : (n c : ℕ) (f : ℕ → ℕ) → ((k : ℕ) → k < n → f k
 unfolding total
 total-small zero c f h = omega arith
 total-small (suc n) c f h = omega (arith, suc-mul n c, h n (omega arith), total-small n c f (λ k l. h k (omega arith)))
-
-total-ext : (n : ℕ) (f g : ℕ → ℕ) → ((k : ℕ) → k < n → f k ≡ g k) → total n f ≡ total n g
-unfolding total
-total-ext zero f g h = refl
-total-ext (suc n) f g h = ap₂ (λ (a b : ℕ). a + b) (total-ext n f g (λ k l. h k (omega arith))) (h n (omega arith))
 
 -- at most 20 numbers, each at most c
 pub twenty : (n c : ℕ) (f : ℕ → ℕ) → n ≤ 20 → ((k : ℕ) → k < n → f k ≤ c) → total n f ≤ 20 * c

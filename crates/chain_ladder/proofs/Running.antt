@@ -9,7 +9,7 @@ use mir.Syntax.{w64}
 use mir.Val.{SFits, toZ, ofZ}
 use mir.Facts.{toZ-ofZ}
 use Rattle.integers.specs.Sums.{sum, sum-zero, sum-suc, sum-natAbs}
-use Rattle.arithmetic.proofs.Words.{fits-abs}
+use Rattle.arithmetic.specs.Words.{fits-abs}
 
 pub sum-none : (f : ℕ → ℤ) → 0 ≡ ofZ w64 (sum 0 f)
 sum-none f = ap (ofZ w64) (sym (sum-zero f))

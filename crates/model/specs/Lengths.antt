@@ -1,16 +1,16 @@
--- Laws of questions 1 and 2, and how large m(m+1) is. Assumes nothing.
-use Prim.Native.Nat.{ℕ, _+_, _*_, _<_, _≤_}
+-- Laws of questions 1 and 2, how large m(m+1) is, and how many kinds there are. Assumes nothing.
+use Prim.Native.Nat.{ℕ, _+_, _*_, _≤_}
 use native.Mathlib.Nat.{mul-le-mul}
 use native.Mathlib.Omega.{arith}
 use mathlib.Core.Path.{_≡_, sym, _∙_}
 use mathlib.Core.Bool.{Bool, true, false, or-false, or-true}
 use mathlib.Core.List.{List}
-use borrow.Author.Tests.{le-leb, lt-leb, leb-true, eq-eqb, ne-eqb, eqb-true}
+use borrow.Author.Tests.{leb-true, eq-eqb, ne-eqb, eqb-true}
 use lib.Dec.{leb, eqb}
 use lib.ListN.{length}
 use Rattle.model.specs.ListsLaws.{and-left, and-right}
 use Rattle.model.specs.Records.{setLength, hasIncurred}
-use Rattle.model.specs.Questions.{q1, q2}
+use Rattle.model.specs.Questions.{q1, q2, kinds}
 use Rattle.model.specs.Tests.{by-test}
 
 pub cells-most : (m : ℕ) → m ≤ 20 → m * (m + 1) ≤ 420
@@ -19,23 +19,20 @@ cells-most m hi = let h : m + 1 ≤ 21 = omega arith in mul-le-mul hi h
 cells-least : (m : ℕ) → 2 ≤ m → 6 ≤ m * (m + 1)
 cells-least m lo = let h : 3 ≤ m + 1 = omega arith in mul-le-mul lo h
 
--- ---- question 1
+pub set-most : (m : ℕ) (there : Bool) → m ≤ 20 → setLength m there ≤ 10080
+set-most m true hi = omega (arith, cells-most m hi)
+set-most m false hi = omega (arith, cells-most m hi)
 
-pub size-yes : (m : ℕ) → 2 ≤ m → m ≤ 20 → q1 m ≡ true
-unfolding q1
-size-yes m lo hi = rw (le-leb 2 m lo, le-leb m 20 hi)
+pub kinds-range : (there : Bool) → (2 ≤ kinds there) × (kinds there ≤ 3)
+unfolding kinds
+kinds-range true = (omega arith, omega arith)
+kinds-range false = (omega arith, omega arith)
+
+-- ---- question 1
 
 pub size-so : (m : ℕ) → q1 m ≡ true → (2 ≤ m) × (m ≤ 20)
 unfolding q1
 size-so m e = (leb-true 2 m (and-left (leb 2 m) (leb m 20) e), leb-true m 20 (and-right (leb 2 m) (leb m 20) e))
-
-pub size-low : (m : ℕ) → m < 2 → q1 m ≡ false
-unfolding q1
-size-low m h = rw (lt-leb 2 m h)
-
-pub size-high : (m : ℕ) → 20 < m → q1 m ≡ false
-unfolding q1
-size-high m h = rw (le-leb 2 m (omega arith), lt-leb m 20 h)
 
 -- ---- question 2
 

@@ -11,7 +11,7 @@ unfoldable pub tabulate : {A : Type 0} → ℕ → (ℕ → A) → List A
 tabulate zero f = []
 tabulate (suc n) f = f 0 ∷ tabulate n (λ k. f (suc k))
 
--- "In a shorter list handed back by value, places past the last entry hold 0": n places, f k at the first m, then d
+-- n places: f k at each of the first m, d at the others (01, Cell forecasts: short lists)
 unfoldable pub listed : {A : Type 0} → ℕ → ℕ → (ℕ → A) → A → List A
 listed n m f d = tabulate n (λ k. cond (ltb k m) (f k) d)
 

@@ -11,7 +11,8 @@ use lib.Dec.{ltb}
 use lib.ListN.{length, getD, set, replicate}
 use lib.Seq.{ext-getD}
 use borrow.Author.Tests.{ltb-true, ltb-false, le-ltb, lt-ltb}
-use Rattle.model.specs.Lists.{tabulate, listed, every}
+use Rattle.model.specs.Lists.{tabulate, listed, every, total}
+use Rattle.model.specs.Tests.{by-test}
 
 -- ---- lists made place by place
 
@@ -83,11 +84,7 @@ getD-listed-past n m f d k x h l = getD-tabulate n (λ k. cond (ltb k m) (f k) d
 -- equal entries
 pub listed-ext : {A : Type 0} (n m : ℕ) (f g : ℕ → A) (d : A) → ((k : ℕ) → k < m → f k ≡ g k) → listed n m f d ≡ listed n m g d
 unfolding listed
-listed-ext n m f g d e = tabulate-ext n (λ k. cond (ltb k m) (f k) d) (λ k. cond (ltb k m) (g k) d) (λ k h. by-test k (ltb k m) refl)
-  where
-    by-test : (k : ℕ) (t : Bool) → ltb k m ≡ t → cond t (f k) d ≡ cond t (g k) d
-    by-test k true q = e k (ltb-true k m q)
-    by-test k false q = refl
+listed-ext n m f g d e = tabulate-ext n (λ k. cond (ltb k m) (f k) d) (λ k. cond (ltb k m) (g k) d) (λ k h. by-test (ltb k m) (λ q. rw (q, e k (ltb-true k m q))) (λ q. rw q))
 
 -- a list that is filled to its end
 pub listed-whole : {A : Type 0} (n : ℕ) (f : ℕ → A) (d : A) → listed n n f d ≡ tabulate n f
@@ -102,7 +99,7 @@ pub listed-more : {A : Type 0} (n i : ℕ) (f : ℕ → A) (d : A) → i < n →
 unfolding listed
 listed-more {A} n i f d h =
     subst (λ (v : A). set (tabulate n (λ k. cond (ltb k i) (f k) d)) i v ≡ tabulate n g) (rw (lt-ltb i (i + 1) (omega arith)))
-    (set-tabulate n i (λ k. cond (ltb k i) (f k) d) g h (λ k o. by-test k (ltb k i) refl o))
+    (set-tabulate n i (λ k. cond (ltb k i) (f k) d) g h same)
   where
     g : ℕ → A
     g k = cond (ltb k (i + 1)) (f k) d
@@ -110,13 +107,40 @@ listed-more {A} n i f d h =
     next : (k : ℕ) → i ≤ k → (k ≡ i → ⊥) → i + 1 ≤ k
     next k l o = ⊎-elim (λ q. absurd (o (sym q))) (λ q. omega arith) (eq-or-lt-of-le l)
 
-    by-test : (k : ℕ) (t : Bool) → ltb k i ≡ t → (k ≡ i → ⊥) → cond (ltb k (i + 1)) (f k) d ≡ cond (ltb k i) (f k) d
-    by-test k true e o = let l : k < i = ltb-true k i e in rw (lt-ltb k (i + 1) (omega arith), e)
-    by-test k false e o = let l : i ≤ k = ltb-false k i e in rw (le-ltb k (i + 1) (next k l o), e)
+    same : (k : ℕ) → (k ≡ i → ⊥) → cond (ltb k (i + 1)) (f k) d ≡ cond (ltb k i) (f k) d
+    same k o =
+        by-test (ltb k i) (λ e. let l : k < i = ltb-true k i e in rw (lt-ltb k (i + 1) (omega arith), e))
+        (λ e. rw (le-ltb k (i + 1) (next k (ltb-false k i e) o), e))
 
 -- the same for a list and a number that are known to be these
 pub listed-next : {A : Type 0} (n i : ℕ) (f : ℕ → A) (d : A) {out : List A} {v : A} → i < n → out ≡ listed n i f d → v ≡ f i → set out i v ≡ listed n (i + 1) f d
 listed-next {A} n i f d h e q = ap₂ (λ (l : List A) (x : A). set l i x) e q ∙ listed-more n i f d h
+
+-- ---- totals
+
+pub total-ext : (n : ℕ) (f g : ℕ → ℕ) → ((k : ℕ) → k < n → f k ≡ g k) → total n f ≡ total n g
+unfolding total
+total-ext zero f g h = refl
+total-ext (suc n) f g h = ap₂ _+_ (total-ext n f g (λ k l. h k (omega arith))) (h n (omega arith))
+
+pub total-plus : (n : ℕ) (f g : ℕ → ℕ) → total n (λ k. f k + g k) ≡ total n f + total n g
+unfolding total
+total-plus zero f g = refl
+total-plus (suc n) f g = rw (total-plus n f g) (omega arith)
+
+total-le : (n : ℕ) (f g : ℕ → ℕ) → ((k : ℕ) → k < n → f k ≤ g k) → total n f ≤ total n g
+unfolding total
+total-le zero f g h = omega arith
+total-le (suc n) f g h = omega (arith, total-le n f g (λ k l. h k (omega arith)), h n (omega arith))
+
+-- f ≤ g with one total: f is g
+pub total-tight : (n : ℕ) (f g : ℕ → ℕ) → ((k : ℕ) → k < n → f k ≤ g k) → total n f ≡ total n g → (k : ℕ) → k < n → f k ≡ g k
+unfolding total
+total-tight zero f g h e k l = absurd (not-suc-le-zero l)
+total-tight (suc n) f g h e k l =
+    let below = total-le n f g (λ k l. h k (omega arith)) in
+    let last = h n (omega arith) in
+    ⊎-elim (λ q. rw q (omega arith)) (λ b. total-tight n f g (λ k l. h k (omega arith)) (omega arith) k b) (eq-or-lt-of-le (le-of-suc-le-suc l))
 
 -- ---- tests of every number
 
@@ -127,6 +151,11 @@ every-none p = refl
 pub every-more : (p : ℕ → Bool) (n : ℕ) → every n p ≡ true → p n ≡ true → every (n + 1) p ≡ true
 unfolding every
 every-more p n h e = rw (add-one, h, e)
+
+-- one answer more, whatever it is
+pub every-next : (p : ℕ → Bool) (n : ℕ) {a b : Bool} → a ≡ every n p → b ≡ p n → (a && b) ≡ every (n + 1) p
+unfolding every
+every-next p n e f = rw (add-one, e, f)
 
 pub every-no : (p : ℕ → Bool) (n k : ℕ) → k < n → p k ≡ false → every n p ≡ false
 unfolding every

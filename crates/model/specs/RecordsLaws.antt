@@ -3,14 +3,17 @@ use mathlib.Core.Path.{_≡_, _∙_}
 use mathlib.Core.Bool.{true, false, cond, and-false}
 use Prim.Native.Nat.{ℕ, _+_, _-_, _*_, _/_, _%_, _<_, _≤_}
 use native.Mathlib.Omega.{arith}
-use borrow.Author.Tests.{le-leb, lt-leb}
+use borrow.Author.Tests.{le-leb, lt-leb, leb-true}
 use lib.Dec.{leb}
 use lib.IntN.{ℤ, pos}
-use Rattle.model.specs.ListsLaws.{getD-tabulate}
+use Rattle.model.specs.ListsLaws.{getD-tabulate, and-left, and-right}
 use Rattle.model.specs.Records.{inside, cell, triangle}
 
 pub inside-yes : (m i j : ℕ) → 1 ≤ i → i + j ≤ m → inside m i j ≡ true
 inside-yes m i j h l = rw (le-leb 1 i h, le-leb (i + j) m l)
+
+pub inside-so : (m i j : ℕ) → inside m i j ≡ true → (1 ≤ i) × (i + j ≤ m)
+inside-so m i j e = (leb-true 1 i (and-left (leb 1 i) (leb (i + j) m) e), leb-true (i + j) m (and-right (leb 1 i) (leb (i + j) m) e))
 
 pub inside-no : (m i j : ℕ) → m < i + j → inside m i j ≡ false
 inside-no m i j l = rw (lt-leb (i + j) m l, and-false (leb 1 i))
@@ -22,4 +25,4 @@ cell-triangle m v i j few h l =
     let y : (20 * (i - 1) + j) / 20 + 1 ≡ i = omega arith in
     let d : (20 * (i - 1) + j) % 20 ≡ j = omega arith in
     getD-tabulate 400 (λ p. cond (inside m (p / 20 + 1) (p % 20)) (v (p / 20 + 1) (p % 20)) (pos 0)) (20 * (i - 1) + j) (pos 0) (omega arith)
-    ∙ rw (y, d, le-leb 1 i h, le-leb (i + j) m l)
+    ∙ rw (y, d, inside-yes m i j h l)

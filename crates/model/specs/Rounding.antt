@@ -1,4 +1,5 @@
--- Document 01, "Rounding". Only this file, its laws and the code that rounds know how r is made.
+-- 01, Rounding: each definition here is of that section. Only this file, its laws and the code that
+-- rounds know how r is made.
 use Prim.Native.Nat.{ℕ, suc, _*_, _/_, _%_, _^_}
 use mathlib.Core.Bool.{cond}
 use lib.Dec.{ltb}
@@ -6,15 +7,17 @@ use lib.IntN.{ℤ, pos, negsuc, negℤ, natAbs, _-ℤ_, _*ℤ_}
 use Rattle.integers.specs.Parts.{_⩽_, _⋖_}
 use Rattle.integers.specs.Absolute.{∣_∣}
 
--- "S = 10^9."
+-- the whole of which shares are parts
 unfoldable pub S : ℤ
 S = pos (10 ^ 9)
 
--- "the nearest whole number; halves go away from zero", of a / b from 0 up: below half the quotient, from half on the next number
+-- the number nearest to a / b, of numbers from 0 up: the quotient where the remainder is below half
+-- of b, the next number from half on
 unfoldable pub nearest : ℕ → ℕ → ℕ
 nearest a b = cond (ltb (2 * (a % b)) b) (a / b) (suc (a / b))
 
--- r(a/b), "so -2.5 becomes -3": b is above zero wherever it is asked for
+-- r(a/b): below 0 the mirror, so that a half goes away from 0 there too. b is above 0 wherever r is
+-- asked for
 unfoldable pub r : ℤ → ℤ → ℤ
 r (pos a) b = pos (nearest a (natAbs b))
 r (negsuc a) b = negℤ (pos (nearest (suc a) (natAbs b)))

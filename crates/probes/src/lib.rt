@@ -1,4 +1,5 @@
-// The functions of `arithmetic` over plain numbers, as a test or a benchmark in another language calls them. Outside its range a function answers OUTSIDE.
+// The functions of `arithmetic` over plain numbers, as a test or a benchmark in another language
+// calls them. Outside its range a function answers OUTSIDE.
 
 ghost use mathlib.Core.Path.{_≡_};
 ghost use Rattle.model.specs.Questions.{within};
@@ -29,7 +30,17 @@ pub extern "C" fn probe_round_div(a: i64, b: i64) -> i64
     arithmetic::round_div(a, b)
 }
 
-// A share: g × a / b, with a at most b.
+// A capped answer as one number.
+fn as_number(k: arithmetic::Capped) -> i64
+    ensures { λ z. ⌜ z ≡ asNumber k ⌝ }
+{
+    match k {
+        arithmetic::Capped::Within(z) => z,
+        arithmetic::Capped::TooLarge => TOO_LARGE,
+    }
+}
+
+// A cumulative share as the chain ladder takes it: g × a / b, up to the largest one in bounds.
 #[no_mangle]
 pub extern "C" fn probe_share(g: i64, a: i64, b: i64) -> i64
     ensures { λ k. ⌜ k ≡ share g a b ⌝ }
@@ -37,13 +48,13 @@ pub extern "C" fn probe_share(g: i64, a: i64, b: i64) -> i64
     if !lies_within(0, 4000000000, g) {
         return OUTSIDE;
     }
-    if !lies_within(1, 1100000000000, b) {
+    if !lies_within(-4000000000000, 4000000000000, a) {
         return OUTSIDE;
     }
-    if !lies_within(0, b, a) {
+    if !lies_within(1, 4000000000000, b) {
         return OUTSIDE;
     }
-    arithmetic::mul_div(a, g, b)
+    as_number(arithmetic::mul_div_capped(g, a, b, 4000000000))
 }
 
 // An ultimate: c × S / g.
@@ -57,17 +68,7 @@ pub extern "C" fn probe_ultimate(c: i64, g: i64) -> i64
     if !lies_within(1000000, 4000000000, g) {
         return OUTSIDE;
     }
-    arithmetic::mul_div(c, 1000000000, g)
-}
-
-// A capped answer as one number.
-fn as_number(k: arithmetic::Capped) -> i64
-    ensures { λ z. ⌜ z ≡ asNumber k ⌝ }
-{
-    match k {
-        arithmetic::Capped::Within(z) => z,
-        arithmetic::Capped::TooLarge => TOO_LARGE,
-    }
+    arithmetic::mul_div(c, arithmetic::SCALE, g)
 }
 
 // A row base: u × w / d, up to a cap.

@@ -1,51 +1,27 @@
--- Question 4 by the keys. A file of the right length whose records are well formed has each cell once where no key stands twice: its records are as many
--- as the set's cells. Assumes nothing.
+-- Question 4 by the keys. A file of the right length whose records are well formed has each cell
+-- once where no key stands twice: its records are as many as the set's cells. Assumes nothing.
 use Prim.Native.Nat.{ℕ, zero, suc, _+_, _-_, _*_, _/_, _%_, _<_, _≤_}
 use native.Mathlib.Numerals.{add-one}
 use native.Mathlib.Omega.{arith}
-use native.Mathlib.Nat.{not-suc-le-zero, eq-or-lt-of-le, le-of-suc-le-suc}
+use native.Mathlib.Nat.{not-suc-le-zero}
 use mathlib.Core.Path.{_≡_, refl, sym, ap, _∙_}
 use mathlib.Core.Bool.{Bool, true, false, _&&_, cond, true≢false}
 use mathlib.Core.List.{List}
-use mathlib.Core.Logic.{⊎-elim}
 use borrow.Author.Tests.{ltb-true, ltb-false, leb-true, le-leb, eq-eqb, ne-eqb, eqb-true}
 use lib.Dec.{ltb, leb, eqb}
 use lib.IntN.{ℤ, pos}
 use Rattle.integers.specs.Sums.{sum-cong, sum-nothing}
 use Rattle.model.specs.Lists.{at, every, total, count, tabulate}
-use Rattle.model.specs.ListsLaws.{every-at, every-all, and-left, and-right, tabulate-ext}
+use Rattle.model.specs.ListsLaws.{every-at, every-all, and-left, and-right, tabulate-ext, total-ext, total-plus, total-tight}
 use Rattle.model.specs.Records.{inside, kindAt, yearAt, delayAt, sparesZero, records, isOf, copies, valueOf, triangle}
+use Rattle.model.specs.RecordsLaws.{inside-yes, inside-so}
 use Rattle.model.specs.Questions.{eachCell}
 use Rattle.model.specs.Tests.{by-test, same-test}
-use Rattle.triangles.specs.Folds.{totals, fold-ext, fold-unit, fold-split, fold-pick, joined, total-fold}
+use Rattle.triangles.specs.Folds.{totals, fold-unit, fold-split, fold-pick, joined, total-fold}
 use Rattle.triangles.specs.OneRecord.{wellFormed}
-use Rattle.triangles.specs.Places.{insideAt, inside-so, inside-yes, eachCell-at, eachCell-all}
+use Rattle.triangles.specs.Places.{insideAt, place-passes, places-pass}
 use Rattle.triangles.proofs.Counting.{count-none, count-more}
 use Rattle.triangles.specs.Keys.{keyAt, Keyed, keyCount, keySum, Distinct}
-
--- ---- totals
-
-total-ext : (n : ℕ) (f g : ℕ → ℕ) → ((k : ℕ) → k < n → f k ≡ g k) → total n f ≡ total n g
-total-ext n f g h = total-fold n f ∙ fold-ext totals n f g h ∙ sym (total-fold n g)
-
-total-plus : (n : ℕ) (f g : ℕ → ℕ) → total n (λ k. f k + g k) ≡ total n f + total n g
-unfolding total
-total-plus zero f g = refl
-total-plus (suc n) f g = rw (total-plus n f g) (omega arith)
-
-total-le : (n : ℕ) (f g : ℕ → ℕ) → ((k : ℕ) → k < n → f k ≤ g k) → total n f ≤ total n g
-unfolding total
-total-le zero f g h = omega arith
-total-le (suc n) f g h = omega (arith, total-le n f g (λ k l. h k (omega arith)), h n (omega arith))
-
--- f ≤ g with one total: f is g
-total-tight : (n : ℕ) (f g : ℕ → ℕ) → ((k : ℕ) → k < n → f k ≤ g k) → total n f ≡ total n g → (k : ℕ) → k < n → f k ≡ g k
-unfolding total
-total-tight zero f g h e k l = absurd (not-suc-le-zero l)
-total-tight (suc n) f g h e k l =
-    let below = total-le n f g (λ k l. h k (omega arith)) in
-    let last = h n (omega arith) in
-    ⊎-elim (λ q. rw q (omega arith)) (λ b. total-tight n f g (λ k l. h k (omega arith)) (omega arith) k b) (eq-or-lt-of-le (le-of-suc-le-suc l))
 
 -- ---- how many keys are cells
 
@@ -160,7 +136,7 @@ module _ (m u : ℕ) (f : List ℕ) (n : ℕ) (small : m ≤ 20) (formed : every
     once : Distinct f n → every u (λ t. eachCell m (λ i j. eqb (copies f t i j) 1)) ≡ true
     once d =
         every-all _ u
-        (λ t k. eachCell-all m _ small
+        (λ t k. places-pass m _ small
         (λ p l i. let e : (400 * t + p) % 400 ≡ p = omega arith in
         eq-eqb _ 1 (copies-key t p l all ∙ exactly d (400 * t + p) (omega arith) ∙ rw (e, i))))
 
@@ -176,7 +152,7 @@ module _ (m u : ℕ) (f : List ℕ) (n : ℕ) (small : m ≤ 20) (formed : every
         let b : p < 400 = omega arith in
         by-test (ltb t u)
         (λ y. by-test (insideAt m p)
-        (λ i. let z = eachCell-at m (λ i j. eqb (copies f t i j) 1) (every-at (λ t. eachCell m (λ i j. eqb (copies f t i j) 1)) u t h (ltb-true t u y)) p i in
+        (λ i. let z = place-passes m (λ i j. eqb (copies f t i j) 1) (every-at (λ t. eachCell m (λ i j. eqb (copies f t i j) 1)) u t h (ltb-true t u y)) p i in
         omega (arith, ap (keyCount f n) e ∙ sym (copies-key t p b all) ∙ eqb-true (copies f t (p / 20 + 1) (p % 20)) 1 z))
         (λ o. omega (arith, ap (keyCount f n) e ∙ count-outside t p b o)))
         (λ y. let g = ltb-false t u y in omega (arith, beyond q (omega arith)))

@@ -1,4 +1,4 @@
--- Two's complement: what `to_signed` computes is `signed`, and what `to_bits` computes is `bits`. Assumes nothing.
+-- Words with a sign: `to_signed` computes `signed`, and `to_bits` computes `bits`. Assumes nothing.
 use Prim.Native.Nat.{ℕ, zero, suc, _-_, _^_, _<_, _≤_}
 use native.Mathlib.Omega.{arith}
 use mathlib.Core.Path.{_≡_, refl, sym, ap, _∙_}

@@ -1,4 +1,5 @@
--- `every`, `total` and `sum` are one fold, that of a commutative monoid: its laws, and that it does not depend on the order. Assumes nothing.
+-- `every`, `total` and `sum` are one fold, that of a commutative monoid: its laws, and that it does
+-- not depend on the order. Assumes nothing.
 use mathlib.Core.Path.{_≡_, refl, sym, _∙_, ap, ap₂}
 use mathlib.Core.Bool.{Bool, true, _&&_, and-true, and-assoc, and-comm, true-and}
 use mathlib.Core.List.{List, [], _∷_, List·Permᴰ, List·Permᴰ·nil, List·Permᴰ·cons, List·Permᴰ·swap, List·Permᴰ·trans}

@@ -1,4 +1,4 @@
--- A record's key: the number of its kind and cell among three lists of 400 places, one after the other.
+-- A record's key: where its kind and cell stand in three lists of 400 places, one after the other.
 use mathlib.Core.Path.{_≡_}
 use Prim.Native.Nat.{ℕ, _+_, _-_, _*_, _≤_, _<_}
 use mathlib.Core.Bool.{Bool, true, cond}
@@ -29,7 +29,8 @@ keySum f n q = sum n (λ k. cond (eqb (keyAt f k) q) (valueAt f k) (pos 0))
 abbrev pub Distinct : List ℕ → ℕ → Type 0
 Distinct f n = (q : ℕ) → q < 1200 → keyCount f n q ≤ 1
 
--- whether no key stands twice among the first n records; where none does, whether their values are in range, and the value of each key
+-- whether no key stands twice among the first n records; where none does, whether their values are
+-- in range, and the value of each key
 pub record ByKey (f : List ℕ) (n : ℕ) (once ok : Bool) (values : List ℤ) : Type 0 where
   pub onceIs : once ≡ every 1200 (λ q. leb (keyCount f n q) 1)
   pub rangedIs : once ≡ true → ok ≡ every n (ranged f)

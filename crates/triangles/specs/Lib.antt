@@ -1,4 +1,5 @@
 -- Laws of lists, the records of a file and their order, and the bytes that the writer writes.
+pub mod Answers
 pub mod Stores
 pub mod Folds
 pub mod OneRecord

@@ -1,4 +1,5 @@
--- What is said of a record depends on its 16 bytes alone; and a fold over the records of a file. Assumes nothing.
+-- What is said of a record depends on its 16 bytes alone; a fold over the records of a file.
+-- Assumes nothing.
 use mathlib.Core.Path.{_≡_, refl, sym, _∙_, ap, ap₂}
 use mathlib.Core.Bool.{Bool, _&&_, cond}
 use mathlib.Core.List.{List, _++_}

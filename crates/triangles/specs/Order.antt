@@ -1,5 +1,5 @@
--- "Records may stand in any order, and order changes no answer.": files with the same records in any order have the same set and the same answers to
--- questions 1 to 5, and every call's answer is made of these. Assumes nothing.
+-- Files with the same records in any order have the same set and the same answers to questions 1 to
+-- 5, and every call's answer is made of these (01, Triangle records). Assumes nothing.
 use mathlib.Core.Path.{_≡_, refl, sym, _∙_, ap}
 use mathlib.Core.List.{List, List·Permᴰ}
 use Prim.Native.Nat.{ℕ, _/_, _%_, _+_}

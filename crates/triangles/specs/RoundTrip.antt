@@ -1,5 +1,5 @@
--- "what it writes reads back as that set": the theorem is `read-back`. Assumes nothing.
-use Prim.Native.Nat.{ℕ, zero, suc, _<_, _≤_}
+-- What the writer writes is read back as the set that it was given: `read-back`. Assumes nothing.
+use Prim.Native.Nat.{ℕ, zero, suc, _<_}
 use native.Mathlib.Omega.{arith}
 use mathlib.Core.Path.{_≡_, refl, sym, ap, _∙_}
 use mathlib.Core.Bool.{Bool, true, false, _&&_, _||_, not, cond}
@@ -11,10 +11,10 @@ use Rattle.model.specs.ListsLaws.{and-left, and-right}
 use Rattle.model.specs.Records.{cell, valueOf, setLength, hasIncurred, triangle, setOf, givenSet, inRange}
 use Rattle.model.specs.Questions.{q1, q2, q3, q4, q5Writer, kinds, eachCell, firstNo, ofRecords, ofFile}
 use Rattle.model.specs.Calls.{readRefusal, readAnswer}
+use Rattle.triangles.specs.Answers.{acceptedRead}
 use Rattle.triangles.specs.OneRecord.{q3-formed}
-use Rattle.model.specs.Tests.{by-test}
-use Rattle.triangles.specs.Places.{insideAt, cell-place, eachCell-at, cells-of}
-use Rattle.model.specs.Lengths.{size-so, length-yes}
+use Rattle.triangles.specs.Places.{insideAt, cell-place, place-passes, cells-of}
+use Rattle.model.specs.Lengths.{kinds-range, size-so, length-yes}
 use Rattle.triangles.specs.Written.{ofKind, setBytes}
 use Rattle.triangles.specs.WrittenLaws.{length-kinds, third, fourth, fifth, triangle-held, triangle-none}
 
@@ -43,7 +43,7 @@ module _ (m : ℕ) (c d e : List ℤ) (size : q1 m ≡ true) where
 
     in-range : (t p : ℕ) → t < kinds there → p < 400 → insideAt m p ≡ true → inRange t (at (ofKind c d e t) p) ≡ true
     in-range t p k l i =
-        ap (inRange t) (sym (cell-place (ofKind c d e t) p)) ∙ eachCell-at m (λ i j. inRange t (cell (ofKind c d e t) i j)) (of-kind there ok t k) p i
+        ap (inRange t) (sym (cell-place (ofKind c d e t) p)) ∙ place-passes m (λ i j. inRange t (cell (ofKind c d e t) i j)) (of-kind there ok t k) p i
 
     second : (q2 m written ≡ true) × (there ≡ hasIncurred m written)
     second = length-yes m written (size-so m size .0) there (length-set there)
@@ -65,21 +65,17 @@ module _ (m : ℕ) (c d e : List ℤ) (size : q1 m ≡ true) where
     last true z = triangle-held m (ofKind c d e) (kinds there) in-range 2 (rw z (omega arith))
     last false z = triangle-none m (ofKind c d e) (kinds there) in-range 2 (rw z (omega arith))
 
-    two-kinds : 2 ≤ kinds there
-    unfolding kinds
-    two-kinds = by-test there (λ z. rw z (omega arith)) (λ z. rw z (omega arith))
-
     set-back : setOf m written ≡ givenSet m there c d e
     unfolding setOf givenSet setBytes ofKind
     set-back =
         rw (
           ← second .1,
-          triangle-held m (ofKind c d e) (kinds there) in-range 0 (omega (arith, two-kinds)),
-          triangle-held m (ofKind c d e) (kinds there) in-range 1 (omega (arith, two-kinds)),
+          triangle-held m (ofKind c d e) (kinds there) in-range 0 (omega (arith, kinds-range there)),
+          triangle-held m (ofKind c d e) (kinds there) in-range 1 (omega (arith, kinds-range there)),
           last there refl,
         )
 
     -- the reader hands back the set that was given
-    pub read-back : readAnswer m written ≡ record { refusal = 0; set = givenSet m there c d e }
+    pub read-back : readAnswer m written ≡ acceptedRead (givenSet m there c d e)
     unfolding readAnswer
     read-back = rw (accepted, set-back)

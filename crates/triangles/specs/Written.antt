@@ -1,4 +1,5 @@
--- The bytes of a set in the order that the writer takes today: kind by kind, place by place. Only inner contracts cite it: `Wrote` names no order.
+-- The bytes of a set in the order that the writer takes today: kind by kind, place by place. Only
+-- inner contracts cite it: `Wrote` names no order.
 use Prim.Native.Nat.{ℕ, zero, suc, _+_, _-_, _/_, _%_, _^_}
 use mathlib.Core.Bool.{Bool, cond}
 use mathlib.Core.List.{List, [], _∷_, _++_}
@@ -7,12 +8,12 @@ use Rattle.model.specs.Lists.{at}
 use Rattle.model.specs.Questions.{kinds}
 use Rattle.triangles.specs.Places.{insideAt}
 
--- two's complement of 64 bits
+-- a signed number as a word
 unfoldable pub bits : ℤ → ℕ
 bits (pos n) = n
 bits (negsuc n) = 2 ^ 64 - suc n
 
--- n bytes of a number, least byte first
+-- n bytes of a number, the lowest in front
 unfoldable pub digits : ℕ → ℕ → List ℕ
 digits zero x = []
 digits (suc n) x = (x % 256) ∷ digits n (x / 256)

@@ -1,4 +1,5 @@
--- Laws of Written: a record that is written is read back, and each cell of the set stands in one record. Assumes nothing.
+-- Laws of Written: a record that is written is read back, and each cell of the set stands in one
+-- record. Assumes nothing.
 use Prim.Native.Nat.{ℕ, zero, suc, _+_, _-_, _*_, _/_, _%_, _^_, _<_, _≤_}
 use native.Mathlib.Omega.{arith}
 use mathlib.Core.Path.{_≡_, refl, sym, ap, _∙_}
@@ -18,7 +19,7 @@ use Rattle.model.specs.Questions.{q5, eachCell}
 use Rattle.triangles.specs.Folds.{Monoid, alls, totals, sums, fold, fold-unit, fold-pick, joined, every-fold, total-fold, sum-fold}
 use Rattle.triangles.specs.OneRecord.{Local, wellFormed, wellFormed-local, ranged, ranged-local, ofCell, ofCell-local, value-local, over, over-append}
 use Rattle.model.specs.Tests.{by-test}
-use Rattle.triangles.specs.Places.{insideAt, cell-place, eachCell-all}
+use Rattle.triangles.specs.Places.{insideAt, cell-place, places-pass}
 use Rattle.triangles.specs.Written.{bits, digits, recordBytes, placeBytes, kindBytes, kindsBytes}
 
 -- ---- one record
@@ -193,7 +194,7 @@ module _ (m : ℕ) (s : ℕ → List ℤ) (u : ℕ) where
     third = every-fold _ _ ∙ all-hold (wellFormed m u) (wellFormed-local m u) (λ t p k l i. well-back t p m u _ k i)
 
     pub fourth : m ≤ 20 → every u (λ t. eachCell m (λ i j. eqb (copies f t i j) 1)) ≡ true
-    fourth small = every-all _ u (λ t k. eachCell-all m _ small (λ p l i. ap (λ (n : ℕ). eqb n 1) (copies-held t p k l i)))
+    fourth small = every-all _ u (λ t k. places-pass m _ small (λ p l i. ap (λ (n : ℕ). eqb n 1) (copies-held t p k l i)))
 
     pub fifth : q5 m f ≡ true
     unfolding q5 over ranged

@@ -14,8 +14,9 @@ pub struct CellAnswers {
     pub ranged: bool,
 }
 
-// Question 4, that no key stands twice among the first n records; where none does, question 5 and the values, each at its key, zeros in the other places.
-// The file is as long as a set, so that then each cell stands there once.
+// Question 4, that no key stands twice among the first n records; where none does, question 5 and
+// the values, each at its key, with zeros in the other places. As the file is as long as a set,
+// each cell then stands there once.
 pub fn by_key(file: &[u8], n: usize, values: &mut [i64; 1200]) -> CellAnswers
     requires { ⌜ 16 * n ≤ length (now file) ⌝ }
     requires { ⌜ Keyed (now file) n ⌝ }
@@ -26,7 +27,8 @@ pub fn by_key(file: &[u8], n: usize, values: &mut [i64; 1200]) -> CellAnswers
     let mut ranged = true;
     let mut k = 0;
     while k < n {
-        let q = fields::key(file, k);
+        let h = fields::head(file, k);
+        let q = fields::key(h);
         if seen[q] != 0 {
             return CellAnswers {
                 once: false,
@@ -34,8 +36,9 @@ pub fn by_key(file: &[u8], n: usize, values: &mut [i64; 1200]) -> CellAnswers
             };
         }
         seen[q] = 1;
-        values[q] = fields::value(file, k);
-        ranged = ranged & questions::value_ok(file, k);
+        let v = fields::value(file, k);
+        values[q] = v;
+        ranged = ranged & questions::in_range(h.kind, v);
         k += 1;
     }
     CellAnswers { once: true, ranged }

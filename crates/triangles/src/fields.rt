@@ -1,9 +1,8 @@
 // The fields of a record of a file.
 ghost use mathlib.Core.Path.{_≡_};
-ghost use Prim.Native.Nat.{_+_, _*_, _≤_, _<_};
+ghost use Prim.Native.Nat.{_+_, _-_, _*_, _≤_, _<_};
 ghost use lib.ListN.{length, getD};
-ghost use Rattle.model.specs.Records.{yearAt, sparesZero, leastFirst, signed, valueAt};
-ghost use Rattle.triangles.specs.Keys.{keyAt};
+ghost use Rattle.model.specs.Records.{sparesZero, leastFirst, signed, valueAt};
 ghost use Rattle.triangles.specs.OneRecord.{HeadAt};
 
 // The byte at a place of the file.
@@ -14,7 +13,7 @@ pub fn byte(file: &[u8], at: usize) -> usize
     file[at] as usize
 }
 
-// Two, four and eight bytes, least byte first.
+// Numbers of two, four and eight bytes, the lowest in front.
 fn two(file: &[u8], at: usize) -> usize
     requires { ⌜ at + 2 ≤ length (now file) ⌝ }
     ensures { λ r. ⌜ (r ≡ leastFirst 2 (now (file .entry)) at) × (r < 65536) ⌝ }
@@ -63,7 +62,7 @@ pub fn spares_zero(file: &[u8], k: usize) -> bool
     four(file, at + 3) + byte(file, at + 7) == 0
 }
 
-// A number of 64 bits read as two's complement.
+// A word read with a sign.
 fn to_signed(x: usize) -> i64
     ensures { λ r. ⌜ r ≡ signed x ⌝ }
 {
@@ -83,11 +82,9 @@ pub fn value(file: &[u8], k: usize) -> i64
 }
 
 // The key of a record: 400 times its kind, and the place of its cell.
-pub fn key(file: &[u8], k: usize) -> usize
-    requires { ⌜ 16 * k + 16 ≤ length (now file) ⌝ }
-    requires { ⌜ 1 ≤ yearAt (now file) k ⌝ }
-    ensures { λ r. ⌜ r ≡ keyAt (now (file .entry)) k ⌝ }
+pub fn key(h: RecordHead) -> usize
+    requires { ⌜ (h .kind < 256) × (1 ≤ h .year) × (h .year < 256) × (h .delay < 256) ⌝ }
+    ensures { λ r. ⌜ r ≡ 400 * h .kind + (20 * (h .year - 1) + h .delay) ⌝ }
 {
-    let h = head(file, k);
     400 * h.kind + (20 * (h.year - 1) + h.delay)
 }

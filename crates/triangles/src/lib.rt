@@ -1,4 +1,4 @@
-// The reader and the writer of triangle sets: document 01, "Triangle records".
+// The reader and the writer of triangle sets (01, Triangle records).
 mod cells;
 mod fields;
 mod questions;
@@ -6,13 +6,14 @@ mod writer;
 
 ghost use mathlib.Core.Path.{_≡_};
 ghost use mathlib.Core.Bool.{true};
-ghost use Rattle.model.specs.Records.{hasIncurred};
+ghost use Rattle.model.specs.Records.{records, hasIncurred};
 ghost use Rattle.model.specs.Questions.{q1, q2};
-ghost use Rattle.model.specs.Calls.{noSet, readAnswer, Wrote};
+ghost use Rattle.triangles.specs.Answers.{refusedRead};
+ghost use Rattle.model.specs.Calls.{readAnswer, Wrote};
 
 // A refusal, with zeros beside it.
 fn refused(number: u64) -> model::ReadAnswer
-    ensures { λ r. ⌜ r ≡ record { refusal = number; set = noSet } ⌝ }
+    ensures { λ r. ⌜ r ≡ refusedRead number ⌝ }
 {
     let none = [0i64; 400];
     model::ReadAnswer {
@@ -26,14 +27,14 @@ fn refused(number: u64) -> model::ReadAnswer
     }
 }
 
-// Questions 3 to 5, and the set that an accepted file holds.
-fn read_records(file: &[u8], m: usize, has_incurred: bool) -> model::ReadAnswer
+// Questions 3 to 5 of a file of n records, and the set that it holds where it is accepted.
+fn read_records(file: &[u8], m: usize, has_incurred: bool, n: usize) -> model::ReadAnswer
     requires { ⌜ q1 m ≡ true ⌝ }
     requires { ⌜ q2 m (now file) ≡ true ⌝ }
     requires { ⌜ «has_incurred» ≡ hasIncurred m (now file) ⌝ }
+    requires { ⌜ n ≡ records (now file) ⌝ }
     ensures { λ r. ⌜ r ≡ readAnswer m (now (file .entry)) ⌝ }
 {
-    let n = file.len() / 16;
     let kinds = questions::kinds(has_incurred);
     if !questions::records_ok(file, m, kinds, n) {
         return refused(3);
@@ -61,18 +62,16 @@ fn read_records(file: &[u8], m: usize, has_incurred: bool) -> model::ReadAnswer
 pub fn read_set(file: &[u8], m: usize) -> model::ReadAnswer
     ensures { λ r. ⌜ r ≡ readAnswer m (now (file .entry)) ⌝ }
 {
-    if m < 2 {
+    if !questions::size_ok(m) {
         return refused(1);
     }
-    if 20 < m {
-        return refused(1);
+    let two = questions::set_records(m, false);
+    if file.len() == 16 * two {
+        return read_records(file, m, false, two);
     }
-    let cells = m * (m + 1);
-    if file.len() == 16 * cells {
-        return read_records(file, m, false);
-    }
-    if file.len() == 24 * cells {
-        return read_records(file, m, true);
+    let three = questions::set_records(m, true);
+    if file.len() == 16 * three {
+        return read_records(file, m, true, three);
     }
     refused(2)
 }
@@ -88,16 +87,13 @@ pub fn write_set(
 ) -> u64
     ensures { λ r. ⌜ Wrote m «has_incurred» counts paid incurred (now (out .entry)) (now (out .exit)) r ⌝ }
 {
-    if m < 2 {
-        return 1;
-    }
-    if 20 < m {
+    if !questions::size_ok(m) {
         return 1;
     }
     if !questions::set_ok(m, has_incurred, counts, paid, incurred) {
         return 5;
     }
-    if out.len() < writer::set_length(m, has_incurred) {
+    if out.len() < 16 * questions::set_records(m, has_incurred) {
         return 7;
     }
     writer::put_set(m, has_incurred, counts, paid, incurred, out);

@@ -1,16 +1,27 @@
-// Question 3 of the first n records of a file, question 5 of a record, and the writer's question 5.
+// Question 1, how many records a set has, question 3 of the first n records of a file, question 5
+// of a value, and the writer's question 5.
 use crate::fields;
 ghost use mathlib.Core.Path.{_≡_};
 ghost use mathlib.Core.Bool.{_||_, not, cond};
-ghost use Prim.Native.Nat.{_+_, _-_, _*_, _^_, _≤_};
+ghost use Prim.Native.Nat.{_+_, _-_, _*_, _^_, _≤_, _<_};
 ghost use lib.Dec.{ltb, eqb};
 ghost use lib.IntN.{pos, negsuc};
 ghost use lib.ListN.{length};
 ghost use Rattle.model.specs.Lists.{every};
-ghost use Rattle.model.specs.Records.{cell, inRange};
-ghost use Rattle.model.specs.Questions.{kinds, eachCell, q5Writer};
-ghost use Rattle.triangles.specs.OneRecord.{wellFormed, ranged};
+ghost use Rattle.model.specs.Records.{cell, inRange, setLength};
+ghost use Rattle.model.specs.Questions.{q1, kinds, eachCell, q5Writer};
+ghost use Rattle.triangles.specs.OneRecord.{wellFormed};
 ghost use Rattle.triangles.specs.Places.{insideAt};
+
+// Question 1.
+pub fn size_ok(m: usize) -> bool
+    ensures { λ r. ⌜ r ≡ q1 m ⌝ }
+{
+    if m < 2 {
+        return false;
+    }
+    m <= 20
+}
 
 // The number of kinds of a set.
 pub fn kinds(has_incurred: bool) -> usize
@@ -20,6 +31,14 @@ pub fn kinds(has_incurred: bool) -> usize
         return 3;
     }
     2
+}
+
+// The number of records of a set.
+pub fn set_records(m: usize, has_incurred: bool) -> usize
+    requires { ⌜ m ≤ 20 ⌝ }
+    ensures { λ r. ⌜ 16 * r ≡ setLength m «has_incurred» ⌝ }
+{
+    kinds(has_incurred) * (m * (m + 1) / 2)
 }
 
 // Question 3 of one record, where there are `kinds` kinds.
@@ -55,41 +74,34 @@ pub fn records_ok(file: &[u8], m: usize, kinds: usize, n: usize) -> bool
     true
 }
 
-// The bounds of question 5.
+// The bounds of question 5, by kind.
+const LOWEST: [i64; 3] = [0, 0, -10000000000];
+
+const HIGHEST: [i64; 3] = [10000000, 10000000000, 10000000000];
+
 fn lowest(kind: usize) -> i64
+    requires { ⌜ kind < 3 ⌝ }
     ensures { λ r. ⌜ r ≡ cond (ltb kind 2) (pos 0) (negsuc (10 ^ 10 - 1)) ⌝ }
 {
-    if kind < 2 {
-        return 0;
-    }
-    -10000000000
+    LOWEST[kind]
 }
 
 fn highest(kind: usize) -> i64
+    requires { ⌜ kind < 3 ⌝ }
     ensures { λ r. ⌜ r ≡ pos (cond (eqb kind 0) (10 ^ 7) (10 ^ 10)) ⌝ }
 {
-    if kind == 0 {
-        return 10000000;
-    }
-    10000000000
+    HIGHEST[kind]
 }
 
 // Question 5 of one value.
 pub fn in_range(kind: usize, v: i64) -> bool
+    requires { ⌜ kind < 3 ⌝ }
     ensures { λ r. ⌜ r ≡ inRange kind v ⌝ }
 {
     if lowest(kind) <= v {
         return v <= highest(kind);
     }
     false
-}
-
-// Question 5 of one record.
-pub fn value_ok(file: &[u8], k: usize) -> bool
-    requires { ⌜ 16 * k + 16 ≤ length (now file) ⌝ }
-    ensures { λ r. ⌜ r ≡ ranged (now (file .entry)) k ⌝ }
-{
-    in_range(fields::byte(file, 16 * k), fields::value(file, k))
 }
 
 // Whether place p is a cell of a triangle of m years.
@@ -101,6 +113,7 @@ pub fn inside(m: usize, p: usize) -> bool
 
 // Question 5 of one place of a triangle.
 fn cell_ok(m: usize, kind: usize, p: usize, v: i64) -> bool
+    requires { ⌜ kind < 3 ⌝ }
     ensures { λ r. ⌜ r ≡ (not (insideAt m p) || inRange kind v) ⌝ }
 {
     if inside(m, p) {
@@ -111,7 +124,7 @@ fn cell_ok(m: usize, kind: usize, p: usize, v: i64) -> bool
 
 // Question 5 of the cells of a triangle.
 fn cells_ok(m: usize, kind: usize, cells: [i64; 400]) -> bool
-    requires { ⌜ m ≤ 20 ⌝ }
+    requires { ⌜ (m ≤ 20) × (kind < 3) ⌝ }
     ensures { λ r. ⌜ r ≡ eachCell m (λ i j. inRange kind (cell cells i j)) ⌝ }
 {
     let mut p = 0;

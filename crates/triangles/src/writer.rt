@@ -3,21 +3,8 @@ use crate::questions;
 ghost use mathlib.Core.Path.{_≡_};
 ghost use Prim.Native.Nat.{_+_, _≤_, _<_};
 ghost use lib.ListN.{length};
-ghost use Rattle.model.specs.Records.{setLength};
 ghost use Rattle.model.specs.Overlay.{overlay};
 ghost use Rattle.triangles.specs.Written.{bits, recordBytes, placeBytes, kindBytes, setBytes};
-
-// The bytes that a set takes.
-pub fn set_length(m: usize, has_incurred: bool) -> usize
-    requires { ⌜ m ≤ 20 ⌝ }
-    ensures { λ r. ⌜ r ≡ setLength m «has_incurred» ⌝ }
-{
-    let cells = m * (m + 1);
-    if has_incurred {
-        return 24 * cells;
-    }
-    16 * cells
-}
 
 // The bits of a signed number.
 fn to_bits(v: i64) -> usize

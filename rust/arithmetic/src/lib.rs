@@ -4,8 +4,11 @@
 /// What a probe answers outside its range.
 pub const OUTSIDE: i64 = i64::MIN;
 
-/// What `row_base` answers past its cap.
+/// What `share` and `row_base` answer past their caps.
 pub const TOO_LARGE: i64 = i64::MAX;
+
+/// The cap of `share`.
+pub const LARGEST_SHARE: u64 = 4_000_000_000;
 
 /// S.
 pub const SCALE: i64 = 1_000_000_000;
@@ -52,7 +55,7 @@ pub mod proved {
 
 /// The same with i128: the same ranges, and a call that is not inlined.
 pub mod plain {
-    use super::{OUTSIDE, SCALE, TOO_LARGE};
+    use super::{LARGEST_SHARE, OUTSIDE, SCALE, TOO_LARGE};
 
     /// The whole number nearest to a / b, halves away from zero.
     #[inline(always)]
@@ -72,6 +75,16 @@ pub mod plain {
         }
     }
 
+    /// A number up to a cap.
+    #[inline(always)]
+    fn capped(k: i128, cap: u64) -> i64 {
+        if k.unsigned_abs() > cap as u128 {
+            TOO_LARGE
+        } else {
+            k as i64
+        }
+    }
+
     #[inline(never)]
     pub extern "C" fn round_div(a: i64, b: i64) -> i64 {
         if a.unsigned_abs() > 9_000_000_000_000_000_000
@@ -84,13 +97,14 @@ pub mod plain {
 
     #[inline(never)]
     pub extern "C" fn share(g: i64, a: i64, b: i64) -> i64 {
-        if !(0..=4_000_000_000).contains(&g)
-            || !(1..=1_100_000_000_000).contains(&b)
-            || !(0..=b).contains(&a)
+        const MOST: i64 = 4_000_000_000_000;
+        if !(0..=LARGEST_SHARE as i64).contains(&g)
+            || !(-MOST..=MOST).contains(&a)
+            || !(1..=MOST).contains(&b)
         {
             return OUTSIDE;
         }
-        nearest(g as i128 * a as i128, b) as i64
+        capped(nearest(g as i128 * a as i128, b), LARGEST_SHARE)
     }
 
     #[inline(never)]
@@ -111,12 +125,7 @@ pub mod plain {
         {
             return OUTSIDE;
         }
-        let k = nearest(u as i128 * w as i128, d);
-        if k.unsigned_abs() > cap as u128 {
-            TOO_LARGE
-        } else {
-            k as i64
-        }
+        capped(nearest(u as i128 * w as i128, d), cap)
     }
 
     #[inline(never)]

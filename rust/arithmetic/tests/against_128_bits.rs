@@ -1,6 +1,6 @@
 //! Each proved function against a calculation with 128-bit numbers, on random numbers, ends of
 //! ranges, exact halves and caps.
-use arithmetic::{proved, Numbers, OUTSIDE, SCALE, TOO_LARGE};
+use arithmetic::{proved, Numbers, LARGEST_SHARE, OUTSIDE, SCALE, TOO_LARGE};
 
 const ROUNDS: usize = 4_000_000;
 
@@ -63,15 +63,24 @@ fn round_div() {
 
 #[test]
 fn share() {
+    const MOST: u64 = 4_000_000_000_000;
     let mut n = Numbers(3141592653589793);
+    let mut too_large = 0;
     for _ in 0..ROUNDS {
-        let g = n.edgy(4_000_000_000) as i64;
-        let b = 1 + n.edgy(1_099_999_999_999) as i64;
-        let a = n.edgy(b as u64) as i64;
-        let want = nearest(g as i128 * a as i128, b as i128);
-        assert_eq!(proved::share(g, a, b) as i128, want, "{g} x {a} / {b}");
-        assert!(want <= g as i128);
+        let g = n.edgy(LARGEST_SHARE) as i64;
+        let b = 1 + n.edgy(MOST - 1) as i64;
+        // a column sum is mostly below the next one; around b the share is around g
+        for a in [
+            n.edgy(b as u64) as i64,
+            n.signed(MOST),
+            b.min(MOST as i64 - 1) + 1,
+        ] {
+            let want = capped(nearest(g as i128 * a as i128, b as i128), LARGEST_SHARE);
+            too_large += (want == TOO_LARGE) as usize;
+            assert_eq!(proved::share(g, a, b), want, "{g} x {a} / {b}");
+        }
     }
+    assert!(too_large > ROUNDS / 10);
 }
 
 #[test]
@@ -160,7 +169,9 @@ fn cell() {
 fn outside_the_range() {
     assert_eq!(proved::round_div(1, 0), OUTSIDE);
     assert_eq!(proved::round_div(i64::MIN, 1), OUTSIDE);
-    assert_eq!(proved::share(1, 2, 1), OUTSIDE);
+    assert_eq!(proved::share(-1, 1, 1), OUTSIDE);
+    assert_eq!(proved::share(1, 1, 0), OUTSIDE);
+    assert_eq!(proved::share(1, i64::MIN, 1), OUTSIDE);
     assert_eq!(proved::ultimate(1, 999_999), OUTSIDE);
     assert_eq!(proved::row_base(1, 1, 0, 1), OUTSIDE);
     assert_eq!(proved::row_base(210_000_000_000_001, 1, 1, 1), OUTSIDE);

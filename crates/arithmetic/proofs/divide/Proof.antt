@@ -1,5 +1,4 @@
--- `arithmetic::divide` meets its contract.
--- Assumes nothing.
+-- `arithmetic::divide` meets its contract. Assumes nothing.
 use Prim.Native.Nat.{_/_, _<_}
 use native.Mathlib.Nat.{mod-lt, div-add-mod', div-lt-iff-lt-mul}
 use native.Mathlib.Omega.{arith}

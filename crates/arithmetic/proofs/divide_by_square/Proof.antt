@@ -1,5 +1,5 @@
--- `arithmetic::divide_by_square` meets its contract: the product of two numbers of two digits, its carries, and how large the four products are.
--- Assumes nothing.
+-- `arithmetic::divide_by_square` meets its contract: the product of two numbers of two digits, its
+-- carries, and how large the four products are. Assumes nothing.
 use mathlib.Core.Path.{_≡_, ap₂, _∙_}
 use Prim.Native.Nat.{ℕ, _+_, _*_, _/_, _%_, _≤_}
 use native.Mathlib.Nat.{mul-le-mul}

@@ -1,46 +1,99 @@
--- `arithmetic::magnitude` meets its contract.
--- Assumes nothing.
-use mathlib.Core.Path.{_≡_, ap}
+-- `arithmetic::magnitude` meets its contract, the least number included. Assumes nothing.
+use mathlib.Core.Path.{_≡_, refl, subst, _∙_}
+use mathlib.Core.Bool.{true, false}
+use Prim.Native.Nat.{ℕ, zero, suc, _+_, _^_, _<_}
+use native.Mathlib.Nat.{not-suc-le-zero}
+use native.Mathlib.Numerals.{add-one}
 use native.Mathlib.Omega.{arith}
-use lib.IntN.{ℤ, pos, negsuc, natAbs, _-ℤ_}
-use lib.Signed.{yes-nonNeg}
+use lib.Dec.{T}
+use lib.IntN.{ℤ, pos, negsuc, negℤ, sucℤ, natAbs, _+ℤ_, _-ℤ_, +ℤ-one, +ℤ-idl}
+use lib.Signed.{ltZ, nonNeg}
 use mir.Syntax.{w64}
-use mir.Val.{SFits}
+use mir.Val.{Fits, SFits, toZ, ofZ}
 use mir.Facts.{toZ-ofZ}
 use borrow.Author.Needs.{needs}
-use Rattle.integers.specs.Parts.{_⩽_, _⋖_, ints}
-use Rattle.integers.specs.Order.{natAbs--ℤ, lt-yes, lt-no}
-use Rattle.arithmetic.proofs.Words.{fits-abs}
+use borrow.Author.Tests.{ltb-true}
 use Rattle.arithmetic.proofs.magnitude.Statement.{statement}
 use Rattle.arithmetic.proofs.magnitude.Tie as tie
 
-minus-is : (a : ℤ) → a ⋖ pos 0 → pos 0 -ℤ a ≡ pos (natAbs a)
-minus-is (pos n) h = absurd (omega (arith, ints))
-minus-is (negsuc n) h = ap pos (omega arith)
+-- z as a local holds it, then z + 1, and - (z + 1)
+abbrev held : ℤ → ℤ
+held z = toZ w64 (ofZ w64 z)
 
-module _ (c : tie.Then1) where
-  fits : SFits w64 (pos 0 -ℤ c .before .args .a)
-  fits = fits-abs (omega (arith, natAbs--ℤ (pos 0) (c .before .args .a)))
+abbrev above : ℤ → ℤ
+above z = held z +ℤ pos 1
 
-  is : pos 0 -ℤ c .before .args .a ≡ pos (natAbs (c .before .args .a))
-  is = minus-is (c .before .args .a) (lt-yes (rw (toZ-ofZ (c .before .fits .a)) at (c .if1 .taken)))
+abbrev opposite : ℤ → ℤ
+opposite z = pos 0 -ℤ held (above z)
+
+record Negated (z : ℤ) : Type 0 where
+  up : SFits w64 (above z)
+  down : SFits w64 (opposite z)
+  not-negative : T (nonNeg (held (opposite z)))
+  fits : Fits w64 (natAbs (held (opposite z)))
+  more : Fits w64 (natAbs (held (opposite z)) + 1)
+  is : natAbs (held (opposite z)) + 1 ≡ natAbs z
+
+module _ (n : ℕ) (h : SFits w64 (negsuc n)) where
+  up-small : (k : ℕ) → k < 2 ^ 63 → SFits w64 (sucℤ (negsuc k))
+  up-small zero l = record { sfits = omega arith }
+  up-small (suc k) l = record { sfits = omega arith }
+
+  back : (k : ℕ) → negℤ (sucℤ (negsuc k)) ≡ pos k
+  back zero = refl
+  back (suc k) = refl
+
+  above-is : above (negsuc n) ≡ sucℤ (negsuc n)
+  above-is = rw (toZ-ofZ h) (+ℤ-one (negsuc n))
+
+  opposite-is : opposite (negsuc n) ≡ pos n
+  opposite-is = rw (above-is, toZ-ofZ (up-small n (h .sfits))) (+ℤ-idl (negℤ (sucℤ (negsuc n))) ∙ back n)
+
+  read-is : held (opposite (negsuc n)) ≡ pos n
+  read-is = rw opposite-is (toZ-ofZ {w = w64} (record { sfits = h .sfits }))
+
+  negated-is : Negated (negsuc n)
+  negated-is =
+      record {
+        up = rw above-is (up-small n (h .sfits));
+        down = rw opposite-is (record { sfits = h .sfits });
+        not-negative = rw read-is tt;
+        fits = rw read-is (record { fits = omega (arith, h .sfits) });
+        more = rw read-is (record { fits = omega (arith, h .sfits) });
+        is = rw read-is (add-one n);
+      }
+
+negated : (z : ℤ) → SFits w64 z → ltZ (held z) (pos 0) ≡ true → Negated z
+negated (pos n) h t = absurd (not-suc-le-zero (ltb-true n 0 (rw (toZ-ofZ h) at t)))
+negated (negsuc n) h t = negated-is n h
+
+not-negated : (z : ℤ) → SFits w64 z → ltZ (held z) (pos 0) ≡ false → T (nonNeg (held z)) × Fits w64 (natAbs (held z))
+not-negated (pos n) h t = rw (toZ-ofZ h) (tt, record { fits = omega (arith, h .sfits) })
+not-negated (negsuc n) h t = absurd (subst T (rw (toZ-ofZ h) at t) tt)
+
+below : (c : tie.Then1) → Negated (c .before .args .a)
+below c = negated (c .before .args .a) (c .before .fits .a) (c .if1 .taken)
+
+add-above : tie.Need-add-above
+add-above c = below c .up
 
 sub-result : tie.Need-sub-result
-sub-result c = rw (toZ-ofZ (c .before .fits .a)) (fits c)
+sub-result c = below c .down
 
 cast-result : tie.Need-cast-result
-cast-result c = rw (toZ-ofZ (c .before .fits .a), toZ-ofZ (fits c), is c) (tt, record { fits = omega arith })
+cast-result c = (below c .not-negative, below c .fits)
 
-cast-result-2 : tie.Need-cast-result-2
-cast-result-2 c =
-    let n : pos 0 ⩽ c .before .args .a = lt-no (rw (toZ-ofZ (c .before .fits .a)) at (c .if1 .left)) in
-    rw (toZ-ofZ (c .before .fits .a)) (yes-nonNeg n, record { fits = omega arith })
+add-result : tie.Need-add-result
+add-result c = below c .more
 
 returns : tie.Need-returns
-returns c = rw (toZ-ofZ (c .before .fits .a), toZ-ofZ (fits c), is c)
+returns c = below c .is
+
+cast-result-2 : tie.Need-cast-result-2
+cast-result-2 c = not-negated (c .before .args .a) (c .before .fits .a) (c .if1 .left)
 
 returns-2 : tie.Need-returns-2
 returns-2 c = search needs
 
 pub magnitude-spec : {M : Type 1} → statement M
-magnitude-spec = tie.close (tie.spec sub-result cast-result cast-result-2 returns returns-2)
+magnitude-spec = tie.close (tie.spec add-above sub-result cast-result add-result returns cast-result-2 returns-2)

@@ -1,5 +1,5 @@
--- `arithmetic::next_digit` meets its contract: the new digit of the quotient is below the base.
--- Assumes nothing.
+-- `arithmetic::next_digit` meets its contract: the quotient's new digit is below the base. Assumes
+-- nothing.
 use Prim.Native.Nat.{_+_, _*_, _/_, _<_}
 use native.Mathlib.Nat.{mod-lt, div-add-mod', div-lt-iff-lt-mul}
 use native.Mathlib.Omega.{arith}

@@ -1,5 +1,5 @@
--- `arithmetic::round_div` meets its contract: the machine's quotient and remainder are what `round_quotient` asks.
--- Assumes nothing.
+-- `arithmetic::round_div` meets its contract: the machine's quotient and remainder are what
+-- `round_quotient` asks. Assumes nothing.
 use mathlib.Core.Path.{_≡_, ap, _∙_}
 use mathlib.Core.List.{[], _∷_}
 use Prim.Native.Nat.{ℕ, suc, _*_, _/_, _%_, _≤_, _<_}
@@ -14,7 +14,7 @@ use Rattle.integers.specs.Parts.{_⩽_, _⋖_, ints}
 use Rattle.integers.specs.Order.{nonneg, natAbs-negℤ}
 use Rattle.integers.specs.Solver.{ring, form}
 use Rattle.model.specs.Rounding.{r}
-use Rattle.arithmetic.proofs.Words.{fits-abs}
+use Rattle.arithmetic.specs.Words.{fits-abs}
 use Rattle.arithmetic.proofs.round_div.Statement.{statement}
 use Rattle.arithmetic.proofs.round_div.Tie as tie
 

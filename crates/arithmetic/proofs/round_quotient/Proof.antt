@@ -1,5 +1,5 @@
--- `arithmetic::round_quotient` meets its contract: each test is one of the laws' cases of the remainder.
--- Assumes nothing.
+-- `arithmetic::round_quotient` meets its contract: each test is one of the laws' cases of the
+-- remainder. Assumes nothing.
 use mathlib.Core.Path.{_≡_, sym}
 use mathlib.Core.List.{[], _∷_}
 use Prim.Native.Nat.{_+_, _*_, _<_}
@@ -12,7 +12,7 @@ use Rattle.integers.specs.Parts.{_⋖_, ints, up, dn, add-parts, diff-parts, mu
 use Rattle.integers.specs.Linear.{lin, stmt}
 use Rattle.integers.specs.Order.{natAbs-+ℤ, natAbs--ℤ}
 use Rattle.arithmetic.specs.RoundingLaws.{r-quotient, r-next, r-previous}
-use Rattle.arithmetic.proofs.Words.{tests, fits-abs}
+use Rattle.arithmetic.specs.Words.{tests, fits-abs}
 use Rattle.arithmetic.proofs.round_quotient.Statement.{statement}
 use Rattle.arithmetic.proofs.round_quotient.Tie as tie
 

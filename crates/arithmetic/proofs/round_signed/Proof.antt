@@ -1,5 +1,4 @@
--- `arithmetic::round_signed` meets its contract.
--- Assumes nothing.
+-- `arithmetic::round_signed` meets its contract. Assumes nothing.
 use mathlib.Core.Path.{_≡_, ap, _∙_}
 use mathlib.Core.List.{[], _∷_}
 use Prim.Native.Nat.{ℕ, _+_, _*_, _^_, _≤_, _<_}
@@ -13,7 +12,7 @@ use Rattle.integers.specs.Parts.{_⩽_, _⋖_}
 use Rattle.integers.specs.Order.{nonneg, natAbs--ℤ}
 use Rattle.integers.specs.Solver.{ring, form}
 use Rattle.model.specs.Rounding.{r}
-use Rattle.arithmetic.proofs.Words.{fits-abs}
+use Rattle.arithmetic.specs.Words.{fits-abs}
 use Rattle.arithmetic.proofs.round_signed.Statement.{statement}
 use Rattle.arithmetic.proofs.round_signed.Tie as tie
 

@@ -1,5 +1,4 @@
--- `arithmetic::scale_cell` meets its contract.
--- Assumes nothing.
+-- `arithmetic::scale_cell` meets its contract. Assumes nothing.
 use mathlib.Core.Path.{_≡_, refl, ap₂, _∙_}
 use Prim.Native.Nat.{_*_}
 use native.Mathlib.Omega.{arith}
@@ -8,7 +7,7 @@ use mir.Facts.{toZ-ofZ}
 use borrow.Author.Needs.{needs}
 use Rattle.model.specs.Rounding.{S}
 use Rattle.arithmetic.specs.Signed.{signed-*}
-use Rattle.arithmetic.proofs.Words.{abs-read}
+use Rattle.arithmetic.specs.Words.{abs-read}
 use Rattle.arithmetic.proofs.scale_cell.Statement.{statement}
 use Rattle.arithmetic.proofs.scale_cell.Tie as tie
 
@@ -23,7 +22,7 @@ x-is : (c : tie.After-magnitude2) → c .magnitude2 .result ≡ natAbs (c .befor
 x-is c = c .magnitude2 .ensures ∙ abs-read (c .before .before .fits .x)
 
 magnitude-requires : tie.Need-magnitude-requires
-magnitude-requires c κs = omega (arith, abs-read (c .fits .v))
+magnitude-requires c κs = search needs
 
 magnitude-requires-2 : tie.Need-magnitude-requires-2
 magnitude-requires-2 c κs = search needs

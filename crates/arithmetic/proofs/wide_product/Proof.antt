@@ -1,9 +1,9 @@
--- `arithmetic::wide_product` meets its contract.
--- Assumes nothing.
+-- `arithmetic::wide_product` meets its contract. Assumes nothing.
 use mathlib.Core.Path.{_≡_, _∙_}
 use native.Mathlib.Omega.{arith}
+use borrow.Author.Needs.{needs}
 use lib.IntN.{natAbs}
-use Rattle.arithmetic.proofs.Words.{abs-read}
+use Rattle.arithmetic.specs.Words.{abs-read}
 use Rattle.arithmetic.proofs.wide_product.Statement.{statement}
 use Rattle.arithmetic.proofs.wide_product.Tie as tie
 
@@ -14,10 +14,10 @@ x-is : (c : tie.After-magnitude2) → c .magnitude2 .result ≡ natAbs (c .befor
 x-is c = c .magnitude2 .ensures ∙ abs-read (c .before .before .fits .x)
 
 magnitude-requires : tie.Need-magnitude-requires
-magnitude-requires c κs = omega (arith, abs-read (c .fits .a))
+magnitude-requires c κs = search needs
 
 magnitude-requires-2 : tie.Need-magnitude-requires-2
-magnitude-requires-2 c κs = omega (arith, abs-read (c .before .fits .x))
+magnitude-requires-2 c κs = search needs
 
 widening-mul-requires : tie.Need-widening-mul-requires
 widening-mul-requires c κs = omega (arith, a-is (c .before), x-is c)

@@ -1,5 +1,5 @@
--- `arithmetic::widening_mul` meets its contract: a times each digit of x, and the carries.
--- Assumes nothing.
+-- `arithmetic::widening_mul` meets its contract: a times each digit of x, and the carries. Assumes
+-- nothing.
 use mathlib.Core.Path.{_≡_, ap}
 use Prim.Native.Nat.{ℕ, _+_, _*_, _/_, _%_, _^_, _≤_, _<_}
 use native.Mathlib.Nat.{mul-le-mul}

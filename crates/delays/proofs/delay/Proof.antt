@@ -13,7 +13,7 @@ use Rattle.integers.specs.Sums.{sum}
 use Rattle.model.specs.Lists.{at}
 use Rattle.model.specs.Rounding.{S}
 use Rattle.model.specs.Delays.{delayAfter}
-use Rattle.arithmetic.proofs.Words.{fits-abs}
+use Rattle.arithmetic.specs.Words.{fits-abs}
 use Rattle.delays.specs.SolvedLaws.{past-small}
 use Rattle.delays.proofs.delay.Statement.{statement}
 use Rattle.delays.proofs.delay.Tie as tie

@@ -12,7 +12,7 @@ use mir.Facts.{toZ-ofZ}
 use Rattle.integers.specs.Order.{natAbs-*ℤ}
 use Rattle.integers.specs.Sums.{sum}
 use Rattle.model.specs.Lists.{at}
-use Rattle.arithmetic.proofs.Words.{fits-abs}
+use Rattle.arithmetic.specs.Words.{fits-abs}
 use Rattle.chain_ladder.proofs.Running.{sum-none, held, sum-more}
 use Rattle.delays.specs.Solved.{Weighed}
 use Rattle.delays.specs.SolvedLaws.{share-small, past-small}

@@ -18,7 +18,7 @@ use Rattle.model.specs.ListsLaws.{every-none, every-more, every-at, every-no}
 use Rattle.model.specs.Delays.{delayAfter, delaysTo, delays}
 use Rattle.model.specs.Questions.{within, q12}
 use Rattle.model.specs.QuestionsLaws.{within-so, within-yes, below-no, above-no}
-use Rattle.arithmetic.proofs.Words.{fits-abs}
+use Rattle.arithmetic.specs.Words.{fits-abs}
 use Rattle.delays.specs.DelaysLaws.{delay-kept, delay-from}
 use Rattle.delays.specs.Solved.{unsolved, solvedOf}
 use Rattle.delays.specs.SolvedLaws.{next-of}

@@ -1,5 +1,4 @@
--- `probes::as_number` meets its contract.
--- Assumes nothing.
+-- `probes::as_number` meets its contract. Assumes nothing.
 use mathlib.Core.Path.{sym, ap}
 use borrow.Author.Needs.{needs}
 use Rattle.probes.specs.Probes.{asNumber}

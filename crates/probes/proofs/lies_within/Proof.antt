@@ -1,5 +1,4 @@
--- `probes::lies_within` meets its contract.
--- Assumes nothing.
+-- `probes::lies_within` meets its contract. Assumes nothing.
 use mir.Facts.{toZ-ofZ}
 use Rattle.probes.proofs.lies_within.Statement.{statement}
 use Rattle.probes.proofs.lies_within.Tie as tie

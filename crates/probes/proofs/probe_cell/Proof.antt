@@ -1,12 +1,12 @@
--- `probes::probe_cell` meets its contract.
--- Assumes nothing.
+-- `probes::probe_cell` meets its contract. Assumes nothing.
 use mathlib.Core.Path.{_≡_, _∙_}
 use mathlib.Core.Bool.{true}
 use Prim.Native.Nat.{_*_, _^_}
 use mir.Facts.{toZ-ofZ}
 use borrow.Author.Needs.{needs}
+use Rattle.model.specs.Tests.{refused, passed}
 use Rattle.probes.specs.Probes.{upTo, cell}
-use Rattle.probes.proofs.Tests.{refused, passed, upTo-is}
+use Rattle.probes.proofs.Tests.{upTo-is}
 use Rattle.probes.proofs.probe_cell.Statement.{statement}
 use Rattle.probes.proofs.probe_cell.Tie as tie
 

@@ -1,5 +1,4 @@
--- `probes::probe_round_div` meets its contract.
--- Assumes nothing.
+-- `probes::probe_round_div` meets its contract. Assumes nothing.
 use mathlib.Core.Path.{_≡_, _∙_}
 use mathlib.Core.Bool.{true}
 use Prim.Native.Nat.{_*_, _^_}
@@ -8,8 +7,9 @@ use lib.IntN.{pos}
 use mir.Facts.{toZ-ofZ}
 use borrow.Author.Needs.{needs}
 use Rattle.model.specs.Questions.{within}
+use Rattle.model.specs.Tests.{refused, passed}
 use Rattle.probes.specs.Probes.{upTo, roundDiv}
-use Rattle.probes.proofs.Tests.{refused, passed, upTo-is, range-is, above-zero}
+use Rattle.probes.proofs.Tests.{upTo-is, range-is, above-zero}
 use Rattle.probes.proofs.probe_round_div.Statement.{statement}
 use Rattle.probes.proofs.probe_round_div.Tie as tie
 

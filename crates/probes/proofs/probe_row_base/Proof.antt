@@ -1,5 +1,4 @@
--- `probes::probe_row_base` meets its contract.
--- Assumes nothing.
+-- `probes::probe_row_base` meets its contract. Assumes nothing.
 use mathlib.Core.Path.{_≡_, ap, _∙_}
 use mathlib.Core.Bool.{true}
 use Prim.Native.Nat.{_*_, _^_}
@@ -10,8 +9,9 @@ use mir.Facts.{toZ-ofZ}
 use borrow.Author.Needs.{needs}
 use borrow.Author.Tests.{le-leb, lt-leb}
 use Rattle.model.specs.Questions.{within}
+use Rattle.model.specs.Tests.{refused, passed}
 use Rattle.probes.specs.Probes.{upTo, asNumber, rowBase}
-use Rattle.probes.proofs.Tests.{refused, passed, upTo-is, range-is, above-zero}
+use Rattle.probes.proofs.Tests.{upTo-is, range-is, above-zero}
 use Rattle.probes.proofs.probe_row_base.Statement.{statement}
 use Rattle.probes.proofs.probe_row_base.Tie as tie
 

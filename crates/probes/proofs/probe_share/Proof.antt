@@ -1,31 +1,27 @@
--- `probes::probe_share` meets its contract.
--- Assumes nothing.
-use mathlib.Core.Path.{_≡_, _∙_}
+-- `probes::probe_share` meets its contract. Assumes nothing.
+use mathlib.Core.Path.{_≡_, ap, _∙_}
 use mathlib.Core.Bool.{true}
-use Prim.Native.Nat.{_*_, _^_, _≤_}
-use native.Mathlib.Nat.{mul-le-mul}
+use Prim.Native.Nat.{_*_, _^_}
 use native.Mathlib.Omega.{arith}
 use lib.Dec.{lit<}
-use lib.IntN.{pos, natAbs}
+use lib.IntN.{pos}
 use mir.Facts.{toZ-ofZ}
 use borrow.Author.Needs.{needs}
-use Rattle.integers.specs.Order.{natAbs-mono}
 use Rattle.model.specs.Questions.{within}
-use Rattle.probes.specs.Probes.{share}
-use Rattle.probes.proofs.Tests.{refused, passed, within-is, Range, range-is, above-zero}
+use Rattle.model.specs.Tests.{refused, passed}
+use Rattle.probes.specs.Probes.{upTo, asNumber, share}
+use Rattle.probes.proofs.Tests.{upTo-is, range-is, above-zero}
 use Rattle.probes.proofs.probe_share.Statement.{statement}
 use Rattle.probes.proofs.probe_share.Tie as tie
 
 g-in : (c : tie.Else1) → within (pos 0) (pos (4 * 10 ^ 9)) (c .before .before .args .g) ≡ true
 g-in c = passed (c .if1 .left) (rw (toZ-ofZ (c .before .before .fits .g)) at (c .before .lies-within .ensures))
 
-b-in : (c : tie.Else2) → within (pos 1) (pos (11 * 10 ^ 11)) (c .before .before .before .before .args .b) ≡ true
-b-in c = passed (c .if2 .left) (rw (toZ-ofZ (c .before .before .before .before .fits .b)) at (c .before .lies-within2 .ensures))
+a-in : (c : tie.Else2) → upTo (4 * 10 ^ 12) (c .before .before .before .before .args .a) ≡ true
+a-in c = passed (c .if2 .left) (rw (toZ-ofZ (c .before .before .before .before .fits .a)) at (c .before .lies-within2 .ensures))
 
-a-in : (c : tie.Else3) → let s = c .before .before .before .before .before .before in within (pos 0) (s .args .b) (s .args .a) ≡ true
-a-in c =
-    let s = c .before .before .before .before .before .before in
-    passed (c .if3 .left) (rw (toZ-ofZ (s .fits .b), toZ-ofZ (s .fits .a)) at (c .before .lies-within3 .ensures))
+b-in : (c : tie.Else3) → within (pos 1) (pos (4 * 10 ^ 12)) (c .before .before .before .before .before .before .args .b) ≡ true
+b-in c = passed (c .if3 .left) (rw (toZ-ofZ (c .before .before .before .before .before .before .fits .b)) at (c .before .lies-within3 .ensures))
 
 lies-within-requires : tie.Need-lies-within-requires
 lies-within-requires c κs = search needs
@@ -40,7 +36,7 @@ lies-within-requires-2 c κs = search needs
 returns-2 : tie.Need-returns-2
 unfolding share
 returns-2 c =
-    rw (g-in (c .before .before), refused (c .if2 .taken) (rw (toZ-ofZ (c .before .before .before .before .fits .b)) at (c .before .lies-within2 .ensures)))
+    rw (g-in (c .before .before), refused (c .if2 .taken) (rw (toZ-ofZ (c .before .before .before .before .fits .a)) at (c .before .lies-within2 .ensures)))
 
 lies-within-requires-3 : tie.Need-lies-within-requires-3
 lies-within-requires-3 c κs = search needs
@@ -49,23 +45,32 @@ returns-3 : tie.Need-returns-3
 unfolding share
 returns-3 c =
     let s = c .before .before .before .before .before .before in
-    rw (g-in (c .before .before .before .before), b-in (c .before .before), refused (c .if3 .taken) (rw (toZ-ofZ (s .fits .b), toZ-ofZ (s .fits .a)) at (c .before .lies-within3 .ensures)))
+    rw (g-in (c .before .before .before .before), a-in (c .before .before), refused (c .if3 .taken) (rw (toZ-ofZ (s .fits .b)) at (c .before .lies-within3 .ensures)))
 
-mul-div-requires : tie.Need-mul-div-requires
-mul-div-requires c κs =
+mul-div-capped-requires : tie.Need-mul-div-capped-requires
+mul-div-capped-requires c κs =
     let s = c .before .before .before .before .before .before in
-    let g : Range 0 (4 * 10 ^ 9) (s .args .g) = range-is 0 (4 * 10 ^ 9) (s .args .g) (g-in (c .before .before .before .before)) in
-    let b : Range 1 (11 * 10 ^ 11) (s .args .b) = range-is 1 (11 * 10 ^ 11) (s .args .b) (b-in (c .before .before)) in
-    let a = within-is (pos 0) (s .args .b) (s .args .a) (a-in c) in
-    let l : natAbs (s .args .a) ≤ natAbs (s .args .b) = natAbs-mono (a .0) (a .1) in
-    rw (toZ-ofZ (s .fits .a), toZ-ofZ (s .fits .g), toZ-ofZ (s .fits .b)) (omega arith, omega arith, above-zero b (lit< tt), omega arith, omega (arith, mul-le-mul l (g .to)))
+    let g = range-is 0 (4 * 10 ^ 9) (s .args .g) (g-in (c .before .before .before .before)) in
+    let b = range-is 1 (4 * 10 ^ 12) (s .args .b) (b-in c) in
+    rw (toZ-ofZ (s .fits .g), toZ-ofZ (s .fits .a), toZ-ofZ (s .fits .b)) (
+      omega (arith, g .to),
+      omega (arith, upTo-is (4 * 10 ^ 12) (s .args .a) (a-in (c .before .before))),
+      above-zero b (lit< tt),
+      omega (arith, b .to),
+      lit< tt,
+    )
+
+as-number-requires : tie.Need-as-number-requires
+as-number-requires c κs = search needs
 
 returns-4 : tie.Need-returns-4
 unfolding share
 returns-4 c =
-    let s = c .before .before .before .before .before .before .before in
-    rw (g-in (c .before .before .before .before .before), b-in (c .before .before .before), a-in (c .before))
-    (toZ-ofZ (record { sfits = c .mul-div .ok }) ∙ rw (toZ-ofZ (s .fits .g), toZ-ofZ (s .fits .a), toZ-ofZ (s .fits .b)) at (c .mul-div .ensures))
+    let o = c .before .before in
+    let s = o .before .before .before .before .before .before in
+    rw (g-in (o .before .before .before .before), a-in (o .before .before), b-in o)
+    (toZ-ofZ (record { sfits = c .as-number .ok }) ∙ c .as-number .ensures
+    ∙ ap asNumber (rw (toZ-ofZ (s .fits .g), toZ-ofZ (s .fits .a), toZ-ofZ (s .fits .b)) at (c .before .mul-div-capped .ensures)))
 
 pub probe-share-spec : {M : Type 1} → statement M
 probe-share-spec =
@@ -77,5 +82,6 @@ probe-share-spec =
     returns-2
     lies-within-requires-3
     returns-3
-    mul-div-requires
+    mul-div-capped-requires
+    as-number-requires
     returns-4)

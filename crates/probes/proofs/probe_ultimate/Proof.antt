@@ -1,5 +1,4 @@
--- `probes::probe_ultimate` meets its contract.
--- Assumes nothing.
+-- `probes::probe_ultimate` meets its contract. Assumes nothing.
 use mathlib.Core.Path.{_≡_, _∙_}
 use mathlib.Core.Bool.{true}
 use Prim.Native.Nat.{_*_, _^_}
@@ -10,8 +9,9 @@ use mir.Facts.{toZ-ofZ}
 use borrow.Author.Needs.{needs}
 use Rattle.model.specs.Questions.{within}
 use Rattle.model.specs.Rounding.{S}
+use Rattle.model.specs.Tests.{refused, passed}
 use Rattle.probes.specs.Probes.{ultimate}
-use Rattle.probes.proofs.Tests.{refused, passed, Range, range-is, above-zero}
+use Rattle.probes.proofs.Tests.{Range, range-is, above-zero}
 use Rattle.probes.proofs.probe_ultimate.Statement.{statement}
 use Rattle.probes.proofs.probe_ultimate.Tie as tie
 

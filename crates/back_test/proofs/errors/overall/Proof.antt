@@ -3,6 +3,7 @@ use mathlib.Core.Path.{_≡_, _∙_, ap}
 use mathlib.Core.List.{List}
 use Prim.Native.Nat.{ℕ, suc, _+_, _-_, _≤_}
 use native.Mathlib.Omega.{arith}
+use borrow.Author.Needs.{needs}
 use denote.Ref.{now}
 use lib.IntN.{ℤ, natAbs, _+ℤ_}
 use mir.Syntax.{w64}
@@ -11,7 +12,7 @@ use mir.Facts.{toZ-ofZ}
 use Rattle.integers.specs.Sums.{sum}
 use Rattle.model.specs.Records.{cell}
 use Rattle.model.specs.BackTest.{overall}
-use Rattle.arithmetic.proofs.Words.{fits-abs}
+use Rattle.arithmetic.specs.Words.{fits-abs}
 use Rattle.chain_ladder.proofs.Running.{sum-none, held, sum-more}
 use Rattle.back_test.specs.Gaps.{SmallGaps}
 use Rattle.back_test.specs.ErrorsLaws.{all-small}
@@ -68,9 +69,7 @@ loop-again : tie.Need-loop-again Inv-loop μ-loop
 loop-again c = (omega arith, ap (ofZ w64) (added c))
 
 magnitude-requires : tie.Need-magnitude-requires Inv-loop μ-loop
-magnitude-requires c κs =
-    let s = c .before .before in
-    rw (all-is c) (omega (arith, all-small (now (s .args .d)) (s .pre .0) (s .args .n) (s .pre .1) (s .args .n) (omega arith)))
+magnitude-requires c κs = search needs
 
 returns : tie.Need-returns Inv-loop μ-loop
 unfolding overall

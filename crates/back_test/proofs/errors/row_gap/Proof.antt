@@ -11,7 +11,7 @@ use mir.Facts.{toZ-ofZ}
 use Rattle.integers.specs.Sums.{sum}
 use Rattle.model.specs.Lists.{at}
 use Rattle.model.specs.Records.{cell}
-use Rattle.arithmetic.proofs.Words.{fits-abs}
+use Rattle.arithmetic.specs.Words.{fits-abs}
 use Rattle.chain_ladder.proofs.Running.{sum-none, held, sum-more}
 use Rattle.back_test.specs.Gaps.{SmallGaps}
 use Rattle.back_test.specs.ErrorsLaws.{row-gap-small}

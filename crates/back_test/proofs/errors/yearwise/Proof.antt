@@ -3,6 +3,7 @@ use mathlib.Core.Path.{_≡_, _∙_, ap}
 use Prim.Native.Nat.{ℕ, suc, _-_, _*_, _^_, _≤_}
 use native.Mathlib.Numerals.{add-one}
 use native.Mathlib.Omega.{arith}
+use borrow.Author.Needs.{needs}
 use denote.Ref.{now}
 use lib.IntN.{ℤ, natAbs}
 use mir.Syntax.{w64}
@@ -50,7 +51,7 @@ year-gap-requires : tie.Need-year-gap-requires Inv-loop μ-loop
 year-gap-requires c κs = let s = c .before .before in (s .pre .0, omega arith, omega arith)
 
 magnitude-requires : tie.Need-magnitude-requires Inv-loop μ-loop
-magnitude-requires c κs = rw (gap-is c) (omega (arith, small c))
+magnitude-requires c κs = search needs
 
 add-out : tie.Need-add-out Inv-loop μ-loop
 add-out c =

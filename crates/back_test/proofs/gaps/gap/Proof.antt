@@ -17,7 +17,7 @@ use Rattle.model.specs.Lists.{at}
 use Rattle.model.specs.Records.{cell}
 use Rattle.model.specs.Cells.{placeOf, size}
 use Rattle.model.specs.BackTest as BackTest
-use Rattle.arithmetic.proofs.Words.{fits-abs}
+use Rattle.arithmetic.specs.Words.{fits-abs}
 use Rattle.back_test.specs.Gaps.{gapFrom}
 use Rattle.back_test.specs.GapsLaws.{compared-so, place-inside, size-small, parts-small, gap-small}
 use Rattle.back_test.proofs.gaps.gap.Statement.{statement}

@@ -14,7 +14,7 @@ use Rattle.integers.specs.Order.{natAbs-*ℤ}
 use Rattle.model.specs.Lists.{listed}
 use Rattle.model.specs.ListsLaws.{listed-none, listed-more}
 use Rattle.model.specs.Records.{cell}
-use Rattle.arithmetic.proofs.Words.{fits-abs}
+use Rattle.arithmetic.specs.Words.{fits-abs}
 use Rattle.cells.specs.Weights.{actualWeight}
 use Rattle.cells.proofs.weights.actual_weights.Statement.{statement}
 use Rattle.cells.proofs.weights.actual_weights.Tie as tie

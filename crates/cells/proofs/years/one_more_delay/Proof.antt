@@ -12,7 +12,7 @@ use mir.Syntax.{w64}
 use mir.Val.{SFits, toZ, ofZ}
 use mir.Facts.{toZ-ofZ}
 use Rattle.integers.specs.Order.{natAbs-*ℤ}
-use Rattle.arithmetic.proofs.Words.{fits-abs}
+use Rattle.arithmetic.specs.Words.{fits-abs}
 use Rattle.model.specs.Lists.{at}
 use Rattle.cells.specs.PairLaws.{weight-small, pairs-small}
 use Rattle.cells.specs.SumsFromLaws.{partly, start, added, next, all}

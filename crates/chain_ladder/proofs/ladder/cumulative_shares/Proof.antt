@@ -16,7 +16,7 @@ use mir.Facts.{toZ-ofZ}
 use Rattle.model.specs.Lists.{at}
 use Rattle.model.specs.ListsLaws.{every-all, every-no}
 use Rattle.model.specs.Rounding.{S}
-use Rattle.arithmetic.proofs.Words.{fits-abs}
+use Rattle.arithmetic.specs.Words.{fits-abs}
 use Rattle.chain_ladder.specs.Ladder.{bounded, shareIn, gOf, boundedOf}
 use Rattle.chain_ladder.specs.LadderLaws.{bounds-abs, bounded-so, inside-is, outside-is, gOf-last, gOf-step}
 use Rattle.chain_ladder.proofs.Backwards.{listedFrom, from-none, from-at, from-next, from-all}

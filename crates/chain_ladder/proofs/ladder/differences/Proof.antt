@@ -11,7 +11,7 @@ use lib.ListN.{replicate}
 use Rattle.integers.specs.Order.{natAbs--ℤ}
 use Rattle.model.specs.Lists.{at, listed}
 use Rattle.model.specs.ListsLaws.{listed-none, listed-next}
-use Rattle.arithmetic.proofs.Words.{fits-abs}
+use Rattle.arithmetic.specs.Words.{fits-abs}
 use Rattle.chain_ladder.specs.Ladder.{difference}
 use Rattle.chain_ladder.specs.LadderLaws.{bounds-abs}
 use Rattle.chain_ladder.proofs.ladder.differences.Statement.{statement}

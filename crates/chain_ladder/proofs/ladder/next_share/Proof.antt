@@ -14,7 +14,7 @@ use Rattle.integers.specs.Order.{lt-yes, lt-no, natAbs-≤}
 use Rattle.model.specs.Rounding.{r}
 use Rattle.model.specs.QuestionsLaws.{within-yes, below-no, above-no}
 use Rattle.arithmetic.specs.Capped.{capped, within-is, over-is}
-use Rattle.arithmetic.proofs.Words.{fits-abs}
+use Rattle.arithmetic.specs.Words.{fits-abs}
 use Rattle.chain_ladder.specs.Ladder.{bounded, shareIn}
 use Rattle.chain_ladder.proofs.ladder.next_share.Statement.{statement}
 use Rattle.chain_ladder.proofs.ladder.next_share.Tie as tie

@@ -16,7 +16,7 @@ use Rattle.model.specs.Shares.{A, B}
 use Rattle.chain_ladder.specs.Sums.{Small, latests, aSums, bSums, sumsOf}
 use Rattle.chain_ladder.specs.LadderLaws.{at-latests}
 use Rattle.chain_ladder.specs.SumsLaws.{B-first, A-next, B-next, A-small, B-small, column-sum, column-spaced}
-use Rattle.arithmetic.proofs.Words.{fits-abs}
+use Rattle.arithmetic.specs.Words.{fits-abs}
 use Rattle.chain_ladder.proofs.Running.{held}
 use Rattle.chain_ladder.proofs.sums.sums.Statement.{statement}
 use Rattle.chain_ladder.proofs.sums.sums.Tie as tie

@@ -1,10 +1,10 @@
--- `by_key` meets its contract: each flag says how often its key stood there so far, and each place has the sum of its key. Assumes nothing.
+-- `by_key` meets its contract: each flag says how often its key stood there so far, and each place
+-- has the sum of its key. Assumes nothing.
 use native.Mathlib.Omega.{arith}
-use native.Mathlib.Numerals.{add-one}
 use borrow.Author.Needs.{needs}
 use borrow.Author.Tests.{le-leb, lt-leb}
-use mathlib.Core.Path.{_≡_, refl, sym, _∙_}
-use mathlib.Core.Bool.{Bool, _&&_, true≢false}
+use mathlib.Core.Path.{_≡_, refl, sym, _∙_, ap₂}
+use mathlib.Core.Bool.{true≢false}
 use mathlib.Core.List.{List}
 use Prim.Native.Nat.{ℕ, zero, suc, _+_, _≤_, _<_, _-_}
 use mir.Syntax.{w64}
@@ -12,9 +12,10 @@ use mir.Val.{SFits}
 use mir.Facts.{toZ-ofZ}
 use denote.Ref.{now}
 use Rattle.model.specs.Lists.{every}
-use Rattle.model.specs.ListsLaws.{every-none, every-no, every-all}
+use Rattle.model.specs.ListsLaws.{every-none, every-next, every-no, every-all}
+use Rattle.model.specs.Records.{inRange}
 use Rattle.triangles.specs.OneRecord.{ranged}
-use Rattle.triangles.specs.Keys.{keyCount}
+use Rattle.triangles.specs.Keys.{keyAt, keyCount}
 use Rattle.triangles.proofs.Counting.{Flags, flags-none, flags-more, count-at, Cells, cells-none, cells-more}
 use Rattle.triangles.proofs.cells.by_key.Statement.{statement}
 use Rattle.triangles.proofs.cells.by_key.Tie as tie
@@ -27,34 +28,39 @@ abbrev μ-loop : tie.MeasureT-loop
 
 module _ (c : tie.After-key Inv-loop μ-loop) where
   abbrev start : tie.Start Inv-loop μ-loop
-  start = c .before .before .before .before
+  start = c .before .before .before .before .before
 
   abbrev file : List ℕ
   file = now (start .args .file)
 
   abbrev k : ℕ
-  k = c .before .before .loop .k
+  k = c .before .before .before .loop .k
 
   abbrev q : ℕ
   q = c .key .result
 
+  keyed : q ≡ keyAt file k
+  unfolding keyAt
+  keyed = omega (arith, c .before .head .ensures)
+
   below : q < 1200
-  below = rw (c .key .ensures) (start .pre .1 .0 k (c .before .loop-test .taken) .1)
+  below = rw keyed (start .pre .1 .0 k (c .before .before .loop-test .taken) .1)
 
 above : (x y z : ℕ) → x ≡ y → (x ≡ 0 → ⊥) → y + 1 ≤ z → 1 < z
 above zero y z e n l = absurd (n refl)
 above (suc x) y z e n l = omega arith
 
--- one answer more
-every-next : (p : ℕ → Bool) (k : ℕ) {a b : Bool} → a ≡ every k p → b ≡ p k → (a && b) ≡ every (k + 1) p
-unfolding every
-every-next p k e f = rw (add-one, e, f)
-
 loop-holds : tie.Need-loop-holds Inv-loop μ-loop
 loop-holds c = (search needs, flags-none _, rw (c .before .pre .1 .1) (cells-none _), sym (every-none _))
 
+head-requires : tie.Need-head-requires Inv-loop μ-loop
+head-requires c κs = omega arith
+
 key-requires : tie.Need-key-requires Inv-loop μ-loop
-key-requires c κs = (omega arith, c .before .before .before .pre .1 .0 (c .before .loop .k) (c .loop-test .taken) .0)
+key-requires c κs =
+    let h = c .head .ensures in
+    let y = c .before .before .before .before .pre .1 .0 (c .before .before .loop .k) (c .before .loop-test .taken) .0 in
+    (h .kindIs .1, omega arith, h .yearIs .1, h .delayIs .1)
 
 array-read-if1 : tie.Need-array-read-if1 Inv-loop μ-loop
 array-read-if1 c = below c
@@ -63,8 +69,8 @@ returns : tie.Need-returns Inv-loop μ-loop
 returns c =
     let b = c .before in
     let z : keyCount (file b) (k b) (q b) + 1 ≤ keyCount (file b) (start b .args .n) (q b) =
-    rw (← b .key .ensures) at (count-at (file b) (start b .args .n) (k b) (b .before .loop-test .taken)) in
-    let flag = b .before .before .loop .inv .1 .1 (q b) (below b) .0 in
+    rw (← keyed b) at (count-at (file b) (start b .args .n) (k b) (b .before .before .loop-test .taken)) in
+    let flag = b .before .before .before .loop .inv .1 .1 (q b) (below b) .0 in
     record {
       onceIs = sym (every-no _ 1200 (q b) (below b) (lt-leb _ 1 (above _ _ _ flag (c .if1 .taken) z)));
       rangedIs = λ e. absurd (true≢false (sym e));
@@ -77,14 +83,14 @@ array-write-seen c = below (c .before)
 value-requires : tie.Need-value-requires Inv-loop μ-loop
 value-requires c κs = omega arith
 
-mul-t15 : tie.Need-mul-t15 Inv-loop μ-loop
-mul-t15 c = omega (arith, below (c .before .before))
+mul-v : tie.Need-mul-v Inv-loop μ-loop
+mul-v c = omega (arith, below (c .before .before))
 
-element-set-from-values : tie.Need-element-set-from-values Inv-loop μ-loop
-element-set-from-values c = below (c .before .before)
+element-set-from-v : tie.Need-element-set-from-v Inv-loop μ-loop
+element-set-from-v c = below (c .before .before)
 
-value-ok-requires : tie.Need-value-ok-requires Inv-loop μ-loop
-value-ok-requires c κs = omega arith
+in-range-requires : tie.Need-in-range-requires Inv-loop μ-loop
+in-range-requires c κs = let b = c .before .before in omega (arith, b .key .ensures, below b)
 
 add-k : tie.Need-add-k Inv-loop μ-loop
 add-k c = omega arith
@@ -93,17 +99,19 @@ loop-less : tie.Need-loop-less Inv-loop μ-loop
 loop-less c = omega arith
 
 loop-again : tie.Need-loop-again Inv-loop μ-loop
+unfolding ranged
 loop-again c =
     let v = c .before in
     let b = v .before .before in
-    let l = b .before .before .loop in
+    let l = b .before .before .before .loop in
     let s : SFits w64 (v .value .result) = search needs in
+    let value = toZ-ofZ s ∙ v .value .ensures in
     let flag = v .before .if1 .left in
     let new = sym (l .inv .1 .1 (q b) (below b) .0) ∙ flag in (
       omega arith,
-      flags-more (file b) (k b) (q b) (l .seen) (b .key .ensures) (below b) flag (l .inv .1),
-      cells-more (file b) (k b) (q b) _ (l .values) (b .key .ensures) (below b) new (toZ-ofZ s ∙ v .value .ensures) (l .inv .2),
-      every-next _ (k b) (l .inv .3) (c .value-ok .ensures),
+      flags-more (file b) (k b) (q b) (l .seen) (keyed b) (below b) flag (l .inv .1),
+      cells-more (file b) (k b) (q b) _ (l .values) (keyed b) (below b) new value (l .inv .2),
+      every-next _ (k b) (l .inv .3) (c .in-range .ensures ∙ ap₂ inRange (b .before .head .ensures .kindIs .0) value),
     )
 
 returns-2 : tie.Need-returns-2 Inv-loop μ-loop
@@ -123,14 +131,15 @@ by-key-spec =
     Inv-loop
     μ-loop
     loop-holds
+    head-requires
     key-requires
     array-read-if1
     returns
     array-write-seen
     value-requires
-    mul-t15
-    element-set-from-values
-    value-ok-requires
+    mul-v
+    element-set-from-v
+    in-range-requires
     add-k
     loop-less
     loop-again

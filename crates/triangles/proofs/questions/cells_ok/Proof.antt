@@ -59,7 +59,7 @@ returns c =
     let l = b .before .before .before .loop in
     let s = b .before .before .before .before in
     sym
-    (places-are (s .args .m) (s .args .kind) (s .args .t3) (s .pre)
+    (places-are (s .args .m) (s .args .kind) (s .args .t3) (s .pre .0)
     ∙ every-no _ 400 (l .p) (b .before .before .loop-test .taken) (tested b ∙ not-true _ (c .if1 .taken)))
 
 add-p : tie.Need-add-p Inv-loop μ-loop
@@ -77,7 +77,7 @@ returns-2 : tie.Need-returns-2 Inv-loop μ-loop
 returns-2 c =
     let e : c .before .loop .p ≡ 400 = omega arith in
     let s = c .before .before in
-    sym (places-are (s .args .m) (s .args .kind) (s .args .t3) (s .pre) ∙ rw e at (c .before .loop .inv .1))
+    sym (places-are (s .args .m) (s .args .kind) (s .args .t3) (s .pre .0) ∙ rw e at (c .before .loop .inv .1))
 
 pub cells-ok-spec : {M : Type 1} → statement M
 cells-ok-spec =

@@ -1,7 +1,7 @@
--- `put_place` meets its contract: the bytes of the place are those of a record, or none. Assumes nothing.
+-- `put_place` meets its contract: a place has the bytes of a record, or none. Assumes nothing.
 use borrow.Author.Needs.{needs}
 use native.Mathlib.Omega.{arith}
-use Prim.Native.Nat.{ℕ, _+_}
+use Prim.Native.Nat.{ℕ}
 use native.Mathlib.Nat.{add-zero}
 use mathlib.Core.Path.{_≡_, sym, ap, _∙_}
 use mathlib.Core.Bool.{true}
@@ -54,7 +54,7 @@ returns c =
     let d = c .before .before in
     let s = d .before .before .before .before .before .before .before in
     let y = inside-so (d .before .before .before .before) in (
-      ap (λ (n : ℕ). s .args .a + n) (sym (in-length _ _ _ (s .args .v) y)),
+      omega (arith, in-length (s .args .m) (s .args .kind) (s .args .p) (s .args .v) y),
       d .put .ensures
           ∙ ap (overlay (now (s .args .out)) (s .args .a))
           (in-bytes _ _ _ (s .args .v) _ _ (s .fits .v) y (d .before .before .to-bits .ensures) (d .before .record-bytes .ensures)),

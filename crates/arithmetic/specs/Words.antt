@@ -1,6 +1,6 @@
--- Signed words in proofs: what a test says of two integers, and when an integer fits a word.
--- Assumes nothing.
-use mathlib.Core.Path.{_≡_, ap, subst}
+-- Laws of signed words: what a test says of two integers, when an integer fits a word, and what is
+-- read back. Assumes nothing.
+use mathlib.Core.Path.{_≡_, sym, ap, subst, _∙_}
 use mathlib.Core.Logic.{_⊎_, inl, inr}
 use mathlib.Core.Bool.{true, false}
 use Prim.Native.Nat.{_+_, _^_, _≤_, _<_}
@@ -43,3 +43,7 @@ fits-abs {z = negsuc n} h = record { sfits = omega arith }
 -- the magnitude of a value that is read back from its bits
 pub abs-read : {z : ℤ} → SFits w64 z → natAbs (toZ w64 (ofZ w64 z)) ≡ natAbs z
 abs-read f = ap natAbs (toZ-ofZ f)
+
+-- numbers with equal bits
+pub equal-words : {a b : ℤ} → SFits w64 a → SFits w64 b → ofZ w64 a ≡ ofZ w64 b → a ≡ b
+equal-words f g e = sym (toZ-ofZ f) ∙ ap (toZ w64) e ∙ toZ-ofZ g

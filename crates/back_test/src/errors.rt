@@ -1,7 +1,7 @@
 // The number of cells compared, and the sums of absolute errors. The gap of cell (i,j) stands at 20
 // × (i-1) + j.
 ghost use mathlib.Core.Path.{_≡_};
-ghost use Prim.Native.Nat.{suc, _+_, _*_, _≤_, _<_, min};
+ghost use Prim.Native.Nat.{suc, _+_, _*_, _≤_, _<_};
 ghost use lib.IntN.{natAbs};
 ghost use Rattle.integers.specs.Sums.{sum};
 ghost use Rattle.model.specs.Lists.{total};
@@ -9,21 +9,12 @@ ghost use Rattle.model.specs.Records.{cell};
 ghost use Rattle.model.specs.BackTest.{cellNumber, cellwise, yearGap, yearwise, overall};
 ghost use Rattle.back_test.specs.Gaps.{SmallGaps, rowInYear};
 
-fn smaller(a: usize, b: usize) -> usize
-    ensures { λ r. ⌜ r ≡ min a b ⌝ }
-{
-    if a < b {
-        return a;
-    }
-    b
-}
-
 // The number of cells compared.
 pub fn cell_number(c: usize, n: usize) -> u64
     requires { ⌜ (1 ≤ n) × (n ≤ 20) ⌝ }
     ensures { λ r. ⌜ r ≡ cellNumber c n ⌝ }
 {
-    let last = smaller(c, n - 1);
+    let last = arithmetic::smaller(c, n - 1);
     let mut out = 0u64;
     let mut k = 0;
     while k < last {

@@ -4,7 +4,6 @@
 ghost use mathlib.Core.Path.{_≡_};
 ghost use mathlib.Core.List.{[], _∷_};
 ghost use Prim.Native.Nat.{_+_, _≤_, _<_};
-ghost use lib.IntN.{natAbs};
 ghost use lib.ListN.{length};
 ghost use Rattle.model.specs.Calendar.{digits, amount};
 ghost use Rattle.calendar.specs.Written.{Written};
@@ -30,23 +29,12 @@ pub fn write_digits(out: &mut [u8], at: usize, n: u64) -> usize
     put(out, end, (48 + n % 10) as u8)
 }
 
-// The magnitude of value, that of the least i64 too.
-fn magnitude(value: i64) -> u64
-    ensures { λ r. ⌜ r ≡ natAbs value ⌝ }
-{
-    if value < 0 {
-        let less = (-1 - value) as u64;
-        return less + 1;
-    }
-    value as u64
-}
-
 // Writes the digits of an amount, with a minus sign before a negative one.
 pub fn write_amount(out: &mut [u8], at: usize, value: i64) -> usize
     requires { ⌜ at + length (amount value) ≤ length (now out) ⌝ }
     ensures { λ r. ⌜ Written (now (out .entry)) at (amount value) (now (out .exit)) r ⌝ }
 {
-    let n = magnitude(value);
+    let n = arithmetic::magnitude(value);
     if value < 0 {
         let next = put(out, at, b'-');
         return write_digits(out, next, n);

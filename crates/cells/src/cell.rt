@@ -1,7 +1,6 @@
 // The cells of a year (01, Cell forecasts).
 
 ghost use mathlib.Core.Path.{_≡_};
-ghost use mathlib.Core.Logic.{_⊎_};
 ghost use Prim.Native.Nat.{ℕ, _+_, _-_, _*_, _^_, _≤_, _<_};
 ghost use lib.Dec.{leb};
 ghost use lib.IntN.{natAbs};
@@ -10,13 +9,6 @@ ghost use Rattle.model.specs.Overlay.{overlay};
 ghost use Rattle.model.specs.Cells.{pairs};
 ghost use Rattle.cells.specs.Weights.{Weights, Delays, Summed};
 ghost use Rattle.cells.specs.CellOf.{cellOf, yearEntries};
-
-// The smaller of two numbers.
-fn smaller(a: usize, b: usize) -> usize
-    ensures { λ r. ⌜ (r ≤ a) × (r ≤ b) × ((r ≡ a) ⊎ (r ≡ b)) ⌝ }
-{
-    if a < b { a } else { b }
-}
 
 // The first k for which j - k is at most m - 1.
 fn first_pair(m: usize, j: usize) -> usize
@@ -36,7 +28,7 @@ fn pair_sum(x: &[i64; 20], p: &[i64; 20], m: usize, j: usize, n: usize) -> i64
     requires { ⌜ Delays (now p) ⌝ }
     ensures { λ r. ⌜ r ≡ pairs m j (λ k. leb k n) (now (x .entry)) (now (p .entry)) ⌝ }
 {
-    let last = smaller(n, j);
+    let last = arithmetic::smaller(n, j);
     let mut k = first_pair(m, j);
     let mut sum = 0;
     while k <= last {

@@ -1,4 +1,3 @@
 -- Laws that several proofs cite.
-pub mod Running
 pub mod Backwards
 pub mod OneTriangle

@@ -2,6 +2,7 @@
 pub mod SharesLaws
 pub mod Sums
 pub mod SumsLaws
+pub mod Running
 pub mod Valid
 pub mod Developed
 pub mod Ladder

@@ -22,9 +22,6 @@ pub struct Bounded {
     pub g: [i64; 20],
 }
 
-// S.
-const SCALE: i64 = 1000000000;
-
 // The least cumulative share that is in bounds.
 const LEAST: i64 = 1000000;
 
@@ -52,7 +49,7 @@ pub fn cumulative_shares(s: TriangleSums, m: usize) -> Bounded
 {
     let mut g = [0i64; 20];
     let mut j = m - 1;
-    g[j] = SCALE;
+    g[j] = arithmetic::SCALE;
     while 0 < j {
         let above = g[j];
         j -= 1;
@@ -94,7 +91,7 @@ pub fn ultimates(latest: [i64; 20], g: [i64; 20], m: usize) -> [i64; 20]
     while k < m {
         let x = latest[k];
         let y = g[m - 1 - k];
-        out[k] = arithmetic::mul_div(x, SCALE, y);
+        out[k] = arithmetic::mul_div(x, arithmetic::SCALE, y);
         k += 1;
     }
     out

@@ -17,9 +17,6 @@ pub struct Solved {
     pub p: [i64; 20],
 }
 
-// S.
-const SCALE: i64 = 1000000000;
-
 // The bound of a delay, on either side of zero.
 const BOUND: i64 = 8000000000;
 
@@ -42,7 +39,7 @@ fn delay(b: &[i64; 20], q: &[i64; 20], p: &[i64; 20], l: usize) -> i64
     requires { ⌜ Next l (now b) (now q) (now p) ⌝ }
     ensures { λ r. ⌜ r ≡ delayAfter (now (b .entry)) (now (q .entry)) (now (p .entry)) l ⌝ }
 {
-    arithmetic::round_div(SCALE * q[l] - past(b, p, l), b[0])
+    arithmetic::round_div(arithmetic::SCALE * q[l] - past(b, p, l), b[0])
 }
 
 // A no to question 12.

@@ -13,6 +13,7 @@ pub mod Cells
 pub mod CellsLaws
 pub mod PaidReserve
 pub mod Calendar
+pub mod CalendarLaws
 pub mod ClaimCosts
 pub mod BackTest
 pub mod Questions

@@ -10,8 +10,7 @@ use lib.ListN.{length}
 use Rattle.model.specs.Lists.{at, every, total, tabulate}
 use Rattle.model.specs.Records.{records, hasIncurred, setOf}
 use Rattle.model.specs.Questions.{q1, q2, q3, q4, q5, kinds, firstNo, ofRecords, ofFile}
-use Rattle.model.specs.Calls.{readRefusal, readAnswer}
-use Rattle.triangles.specs.Answers.{refusedRead, acceptedRead}
+use Rattle.model.specs.Calls.{refusedRead, acceptedRead, readRefusal, readAnswer}
 use Rattle.triangles.specs.OneRecord.{wellFormed, q3-formed, ranged}
 use Rattle.triangles.specs.Places.{cells-of}
 use Rattle.model.specs.Lengths.{kinds-range, size-so, length-so}

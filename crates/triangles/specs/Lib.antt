@@ -1,5 +1,4 @@
 -- Laws of lists, the records of a file and their order, and the bytes that the writer writes.
-pub mod Answers
 pub mod Stores
 pub mod Folds
 pub mod OneRecord

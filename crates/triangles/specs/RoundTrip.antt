@@ -10,8 +10,7 @@ use Rattle.model.specs.Lists.{at}
 use Rattle.model.specs.ListsLaws.{and-left, and-right}
 use Rattle.model.specs.Records.{cell, valueOf, setLength, hasIncurred, triangle, setOf, givenSet, inRange}
 use Rattle.model.specs.Questions.{q1, q2, q3, q4, q5Writer, kinds, eachCell, firstNo, ofRecords, ofFile}
-use Rattle.model.specs.Calls.{readRefusal, readAnswer}
-use Rattle.triangles.specs.Answers.{acceptedRead}
+use Rattle.model.specs.Calls.{acceptedRead, readRefusal, readAnswer}
 use Rattle.triangles.specs.OneRecord.{q3-formed}
 use Rattle.triangles.specs.Places.{insideAt, cell-place, place-passes, cells-of}
 use Rattle.model.specs.Lengths.{kinds-range, size-so, length-yes}

@@ -8,8 +8,7 @@ ghost use mathlib.Core.Path.{_≡_};
 ghost use mathlib.Core.Bool.{true};
 ghost use Rattle.model.specs.Records.{records, hasIncurred};
 ghost use Rattle.model.specs.Questions.{q1, q2};
-ghost use Rattle.triangles.specs.Answers.{refusedRead};
-ghost use Rattle.model.specs.Calls.{readAnswer, Wrote};
+ghost use Rattle.model.specs.Calls.{refusedRead, readAnswer, Wrote};
 
 // A refusal, with zeros beside it.
 fn refused(number: u64) -> model::ReadAnswer

@@ -13,7 +13,7 @@ use Rattle.integers.specs.Order.{natAbs-*ℤ}
 use Rattle.integers.specs.Sums.{sum}
 use Rattle.model.specs.Lists.{at}
 use Rattle.arithmetic.specs.Words.{fits-abs}
-use Rattle.chain_ladder.proofs.Running.{sum-none, held, sum-more}
+use Rattle.chain_ladder.specs.Running.{sum-none, held, sum-more}
 use Rattle.delays.specs.Solved.{Weighed}
 use Rattle.delays.specs.SolvedLaws.{share-small, past-small}
 use Rattle.delays.proofs.past.Statement.{statement}

@@ -10,7 +10,7 @@ use mir.Val.{toZ}
 use mir.Facts.{toZ-ofZ}
 use Rattle.integers.specs.Sums.{sum, sum-zero, sum-suc}
 use Rattle.model.specs.Lists.{at}
-use Rattle.model.proofs.Laws.{fits-so}
+use Rattle.model.specs.CalendarLaws.{fits-so}
 use Rattle.calendar.proofs.tally_text.total.Statement.{statement}
 use Rattle.calendar.proofs.tally_text.total.Tie as tie
 

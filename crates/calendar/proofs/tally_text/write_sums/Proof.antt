@@ -10,7 +10,7 @@ use mir.Val.{SFits}
 use mir.Facts.{toZ-ofZ}
 use Rattle.calendar.specs.Written.{Written, written-then}
 use Rattle.calendar.specs.TallyTextLaws.{field, sums, sums-size}
-use Rattle.model.proofs.Laws.{fits-so}
+use Rattle.model.specs.CalendarLaws.{fits-so}
 use borrow.Author.Needs.{needs}
 use Rattle.calendar.proofs.tally_text.write_sums.Statement.{statement}
 use Rattle.calendar.proofs.tally_text.write_sums.Tie as tie

@@ -1,12 +1,11 @@
 -- `cells::cell::pair_sum` meets its contract. The loop's invariant: what is summed so far are the
 -- terms below k. Assumes nothing.
 use mathlib.Core.Path.{_≡_, sym, _∙_, ap}
-use mathlib.Core.Logic.{⊎-elim}
 use Prim.Native.Nat.{ℕ, _+_, _-_, _<_}
 use native.Mathlib.Nat.{mul-le-mul}
 use native.Mathlib.Numerals.{add-one}
 use native.Mathlib.Omega.{arith}
-use borrow.Author.Tests.{le-leb, lt-leb}
+use borrow.Author.Tests.{le-leb, leb-true}
 use lib.Dec.{leb}
 use lib.IntN.{ℤ, pos, _+ℤ_, _*ℤ_}
 use mir.Syntax.{w64}
@@ -16,6 +15,7 @@ use Rattle.integers.specs.Order.{natAbs-*ℤ}
 use Rattle.integers.specs.Sums.{sum, sum-suc, sum-nothing, sum-ends}
 use Rattle.arithmetic.specs.Words.{fits-abs}
 use Rattle.model.specs.Lists.{at}
+use Rattle.model.specs.Tests.{by-test}
 use Rattle.cells.specs.PairLaws.{term, term-in, term-no, term-before, term-after, sum-small, weight-small, pairs-terms}
 use Rattle.cells.proofs.cell.pair_sum.Statement.{statement}
 use Rattle.cells.proofs.cell.pair_sum.Tie as tie
@@ -33,8 +33,9 @@ terms s = term (s .args .m) (s .args .j) (λ k. leb k (s .args .n)) (s .args .x 
 past : (c : tie.After-smaller Inv-loop μ-loop) (k : ℕ) → c .smaller .result < k → terms (c .before) k ≡ pos 0
 past c k l =
     let a = c .before .args in
-    ⊎-elim (λ e. term-no (a .m) (a .j) (λ k. leb k (a .n)) (a .x .now) (a .p .now) k (lt-leb k (a .n) (omega arith)))
-    (λ e. term-after (a .m) (a .j) (λ k. leb k (a .n)) (a .x .now) (a .p .now) k (omega arith)) (c .smaller .ensures .2)
+    by-test (leb k (a .n))
+    (λ y. let h = leb-true k (a .n) y in term-after (a .m) (a .j) (λ k. leb k (a .n)) (a .x .now) (a .p .now) k (omega (arith, c .smaller .ensures)))
+    (λ y. term-no (a .m) (a .j) (λ k. leb k (a .n)) (a .x .now) (a .p .now) k y)
 
 module _ (c : tie.After-sum2 Inv-loop μ-loop) where
   abbrev l : tie.At-loop Inv-loop μ-loop

@@ -77,7 +77,7 @@ module _ (m : ℕ) (s : TriangleSet) (c method basis : ℕ) where
       same : (k j : ℕ) → k < n → j < n → made (suc k) j ≡ meant (suc k) j
       same k j h l =
           gaps-at m n out (s .paid) k j (omega (arith, sizes .1)) (omega (arith, sizes .1))
-          ∙ rw written (gap-is m n s (delaysOf n known) method basis (zeros 1560) (suc k) j (sizes .0) (sizes .1) (omega arith))
+          ∙ rw written (gap-is m n s (delaysOf n known) method basis (zeros 1560) (suc k) j (omega arith))
 
       pub test-yes : {d : List ℤ} {k x y z : ℕ} → d ≡ gaps m n out (s .paid) → k ≡ cellNumber c n
           → x ≡ cellwise n (cell d) → y ≡ yearwise n c (cell d) → z ≡ overall n (cell d)

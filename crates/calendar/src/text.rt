@@ -1,7 +1,6 @@
 // Numbers as decimal text, written into lent memory from a place on. Each function hands back the
 // place after what it wrote.
 
-ghost use mathlib.Core.Path.{_≡_};
 ghost use mathlib.Core.List.{[], _∷_};
 ghost use Prim.Native.Nat.{_+_, _≤_, _<_};
 ghost use lib.ListN.{length};

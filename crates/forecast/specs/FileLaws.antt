@@ -14,7 +14,7 @@ use Rattle.model.specs.PaidReserve.{NearReserves}
 use Rattle.model.specs.Questions.{q6, q7, ofForecast}
 use Rattle.model.specs.Calls.{readRefusal, refusedForecast, forecastRefusal, forecastAnswer, forecastOutput, Forecasted}
 use Rattle.model.specs.CallsLaws as CallsLaws
-use Rattle.model.specs.CallsLaws.{if-accepted, if-refused, number-of}
+use Rattle.model.specs.CallsLaws.{if-refused, number-of}
 use Rattle.model.specs.declared.TriangleSet.{TriangleSet}
 use Rattle.model.specs.declared.ForecastAnswer.{ForecastAnswer}
 use Rattle.chain_ladder.specs.Accepted.{valid-set}

@@ -16,7 +16,7 @@ use Rattle.model.specs.Shares.{gList, bList}
 use Rattle.model.specs.Delays.{delays, delaysOf}
 use Rattle.model.specs.RowBases.{rowBase}
 use Rattle.model.specs.Cells.{sList, outputFrom}
-use Rattle.model.specs.Questions.{within, q6, q12, firstNo, ofShares, ofDelays, ofMethod, ofForecast}
+use Rattle.model.specs.Questions.{within, q6, q12, ofShares, ofDelays, ofMethod, ofForecast}
 use Rattle.model.specs.QuestionsLaws.{within-so, numbered, stage-no, stage-yes, stages-so}
 use Rattle.model.specs.Tests.{by-test}
 use Rattle.model.specs.declared.TriangleSet.{TriangleSet}

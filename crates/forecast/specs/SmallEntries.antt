@@ -8,14 +8,14 @@ use native.Mathlib.Nat.{mul-assoc, div-lt-iff-lt-mul}
 use native.Mathlib.Omega.{arith}
 use lib.Dec.{leb, eqb}
 use lib.IntN.{ℤ, pos, natAbs}
-use lib.ListN.{length, List·getD-append, drop}
+use lib.ListN.{length}
 use Rattle.model.specs.Lists.{at}
-use Rattle.model.specs.ListsLaws.{length-tabulate, getD-tabulate}
 use Rattle.model.specs.Records.{setOf}
 use Rattle.model.specs.Shares.{bList}
 use Rattle.model.specs.Delays.{delaysOf}
 use Rattle.model.specs.RowBases.{rowBase}
-use Rattle.model.specs.Cells.{size, yearOf, delayOf, rbns, ibnr, sList, entry, entries, outputFrom}
+use Rattle.model.specs.Cells.{size, yearOf, delayOf, rbns, ibnr, sList, entry, outputFrom}
+use Rattle.model.specs.CellsLaws.{written}
 use Rattle.model.specs.Questions.{q6}
 use Rattle.model.specs.declared.TriangleSet.{TriangleSet}
 use Rattle.model.specs.Calls.{forecastRefusal, forecastOutput}
@@ -64,12 +64,7 @@ module _ (m : ℕ) (s : TriangleSet) (method basis : ℕ) (valid : Valid m s) (s
 
   -- as they are written
   pub output-small : (before : List ℤ) (e : ℕ) → e < size m → natAbs (at (outputFrom m s (delaysOf m s) method basis before) e) ≤ 2 * 10 ^ 15
-  unfolding outputFrom entries
-  output-small before e l =
-      rw (
-        List·getD-append (entries m s (delaysOf m s) method basis) (drop (size m) before) (pos 0) e (rw (length-tabulate (size m) (entry m s (delaysOf m s) method basis)) l),
-        getD-tabulate (size m) (entry m s (delaysOf m s) method basis) e (pos 0) l,
-      ) (entry-small e l)
+  output-small before e l = rw (written m s (delaysOf m s) method basis before e l) (entry-small e l)
 
 -- of an accepted file
 pub file-small : (m : ℕ) (f : List ℕ) (method basis : ℕ) (before : List ℤ) → forecastRefusal m f method basis (length before) ≡ 0

@@ -34,7 +34,7 @@ pub <ℤ-or-≥ : (a b : ℤ) → (a <ℤ b) ⊎ (b ≤ℤ a)
 <ℤ-or-≥ a b = test a b (ltZ a b) ltZ-yes ltZ-no
 
 -- ---- the tests
-so-true : (t : Bool) → T t → t ≡ true
+pub so-true : (t : Bool) → T t → t ≡ true
 so-true true h = refl
 so-true false h = absurd h
 

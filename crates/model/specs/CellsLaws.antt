@@ -12,6 +12,13 @@ use Rattle.model.specs.ListsLaws.{length-tabulate, getD-tabulate}
 use Rattle.model.specs.Cells.{placeOf, size, rbns, ibnr, entry, entries, outputFrom}
 use Rattle.model.specs.declared.TriangleSet.{TriangleSet}
 
+-- an entry as it is written
+pub written : (m : ℕ) (s : TriangleSet) (p : List ℤ) (method basis : ℕ) (before : List ℤ) (e : ℕ) → e < size m → at (outputFrom m s p method basis before) e ≡ entry m s p method basis e
+unfolding outputFrom entries
+written m s p method basis before e u =
+    List·getD-append (entries m s p method basis) (drop (size m) before) (pos 0) e (rw (length-tabulate (size m) (entry m s p method basis)) u)
+    ∙ getD-tabulate (size m) (entry m s p method basis) e (pos 0) u
+
 -- the year and the delay of cell n = (i - 1) × (2m - 1) + j
 module _ (m i j : ℕ) (h : 1 ≤ i) (k : j < 2 * m - 1) where
   abbrev n : ℕ
@@ -48,14 +55,8 @@ module _ (m i j : ℕ) (h : 1 ≤ i) (k : j < 2 * m - 1) where
 
   -- as they are written
   module _ (s : TriangleSet) (p : List ℤ) (method basis : ℕ) (before : List ℤ) (l : i ≤ m) where
-    written : (e : ℕ) → e < size m → at (outputFrom m s p method basis before) e ≡ entry m s p method basis e
-    unfolding outputFrom entries
-    written e u =
-        List·getD-append (entries m s p method basis) (drop (size m) before) (pos 0) e (rw (length-tabulate (size m) (entry m s p method basis)) u)
-        ∙ getD-tabulate (size m) (entry m s p method basis) e (pos 0) u
-
     pub written-rbns : at (outputFrom m s p method basis before) (placeOf m i j) ≡ rbns m s p method basis i j
-    written-rbns = let u = place-inside l in written (placeOf m i j) (omega arith) ∙ entry-rbns s p method basis
+    written-rbns = let u = place-inside l in written m s p method basis before (placeOf m i j) (omega arith) ∙ entry-rbns s p method basis
 
     pub written-ibnr : at (outputFrom m s p method basis before) (placeOf m i j + 1) ≡ ibnr m s p method i j
-    written-ibnr = written (placeOf m i j + 1) (place-inside l) ∙ entry-ibnr s p method basis
+    written-ibnr = written m s p method basis before (placeOf m i j + 1) (place-inside l) ∙ entry-ibnr s p method basis

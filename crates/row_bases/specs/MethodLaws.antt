@@ -15,9 +15,7 @@ use Rattle.integers.specs.Linear.{lin, stmt}
 use Rattle.integers.specs.Order.{natAbs-≤, le-yes, lt-yes}
 use Rattle.model.specs.Lists.{at, listed, every}
 use Rattle.model.specs.ListsLaws.{listed-ext, every-at, every-ext, every-all, and-left, and-right}
-use Rattle.model.specs.Shares as Shares
 use Rattle.model.specs.Shares.{latest, A, B, g, ultimate, ultimates}
-use Rattle.model.specs.RowBases as RowBases
 use Rattle.model.specs.RowBases.{U, W, R, R*, rowBase, leftover, leftovers}
 use Rattle.model.specs.Questions.{within, usesIncurred, firstNo, ofMethod, q6, q13, q14}
 use Rattle.model.specs.QuestionsLaws.{EachYes, numbered, each-yes, within-so, within-yes}

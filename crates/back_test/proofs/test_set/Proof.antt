@@ -12,7 +12,6 @@ use Rattle.model.specs.declared.TriangleSet.{TriangleSet}
 use Rattle.model.specs.declared.ForecastAnswer.{ForecastAnswer}
 use Rattle.forecast.specs.SetForecast.{setRefusal, setAnswer, setOutput}
 use Rattle.back_test.specs.Gaps.{Forecast, SmallGaps}
-use Rattle.back_test.specs.Gaps as Gaps
 use Rattle.back_test.specs.GapsLaws.{gaps-small}
 use Rattle.back_test.specs.TestLaws.{test-no, test-yes, sizes, known-valid, known-six, room, forecast-so}
 use Rattle.back_test.proofs.test_set.Statement.{statement}

@@ -18,8 +18,9 @@ use Rattle.model.specs.Records.{cell}
 use Rattle.model.specs.Cells.{placeOf, size}
 use Rattle.model.specs.BackTest as BackTest
 use Rattle.arithmetic.specs.Words.{fits-abs}
+use Rattle.model.specs.CellsLaws.{place-inside}
 use Rattle.back_test.specs.Gaps.{gapFrom}
-use Rattle.back_test.specs.GapsLaws.{compared-so, place-inside, size-small, parts-small, gap-small}
+use Rattle.back_test.specs.GapsLaws.{compared-so, size-small, parts-small, gap-small}
 use Rattle.back_test.proofs.gaps.gap.Statement.{statement}
 use Rattle.back_test.proofs.gaps.gap.Tie as tie
 
@@ -54,7 +55,7 @@ module _ (c : tie.Else1) where
   inside =
       let b = compared-so m n i j yes in
       let f = start .pre .0 in
-      (place-inside n i j (start .pre .1) (b .0) (b .1), size-small n (omega (arith, f .less, f .few)))
+      (place-inside n i j (start .pre .1) (omega (arith, b .1)) (b .0), size-small n (omega (arith, f .less, f .few)))
 
   parts : (natAbs (at out (placeOf n i j)) ≤ 2 * 10 ^ 15) × (natAbs (at out (placeOf n i j + 1)) ≤ 2 * 10 ^ 15) × (natAbs (cell paid i j) ≤ 10 ^ 10)
   parts = parts-small m n out paid (start .pre .0) i j (start .pre .1) yes

@@ -12,7 +12,6 @@ use Rattle.chain_ladder.specs.Sums.{latests}
 use Rattle.chain_ladder.specs.SumsLaws.{row-sum, row-spaced}
 use Rattle.chain_ladder.proofs.sums.latest_sums.Statement.{statement}
 use Rattle.chain_ladder.proofs.sums.latest_sums.Tie as tie
-use Rattle.chain_ladder.proofs.sums.spaced_sum.Reads as spaced-sum-reads
 
 abbrev Inv-loop : tie.InvT-loop
 Inv-loop t m out₀ k₀ out k = (k ≤ m) × (out ≡ listed 20 k (λ i. latest m t (suc i)) (pos 0))

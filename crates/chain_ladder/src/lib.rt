@@ -174,13 +174,11 @@ pub fn shares(file: &[u8], m: usize) -> model::SharesAnswer
     if developed.refusal != 0 {
         return refused_shares(developed.refusal);
     }
-    let counts = developed.counts;
-    let paid = developed.paid;
-    let b = counts.shares;
-    let n = counts.ultimates;
-    let q = paid.shares;
-    let g = paid.g;
-    let u = paid.ultimates;
+    let b = developed.counts.shares;
+    let n = developed.counts.ultimates;
+    let q = developed.paid.shares;
+    let g = developed.paid.g;
+    let u = developed.paid.ultimates;
     model::SharesAnswer {
         refusal: 0,
         b,

@@ -97,10 +97,8 @@ fn claim_costs_of_set(set: model::TriangleSet, m: usize) -> model::ClaimCostsAns
     if developed.refusal != 0 {
         return refused(developed.refusal);
     }
-    let counts = developed.counts;
-    let paid = developed.paid;
-    let n = counts.ultimates;
-    let u = paid.ultimates;
+    let n = developed.counts.ultimates;
+    let u = developed.paid.ultimates;
     let costs = quotients(u, n, m);
     let mu = costs[0];
     let sums = chain_ladder::sums::sums(&set.paid, m);

@@ -111,14 +111,14 @@ pub fn prepare<'a>(counts: &'a [i64; 400], paid: &'a [i64; 400], m: usize) -> Pr
     if d.refusal != 0 {
         return not_prepared(d.refusal);
     }
-    let counts = d.counts;
-    let paid = d.paid;
-    let b = counts.shares;
-    let q = paid.shares;
+    let b = d.counts.shares;
+    let q = d.paid.shares;
     let solved = solve(m, b, q);
     if !solved.ok {
         return not_prepared(12);
     }
+    let counts = d.counts;
+    let paid = d.paid;
     let p = solved.p;
     Prepared {
         refusal: 0,

@@ -43,10 +43,9 @@ pub fn forecast_prepared<'a>(
     if bases.refusal != 0 {
         return refused(bases.refusal);
     }
-    let of_counts = ready.counts;
-    let shares = of_counts.shares;
-    let g = of_counts.g;
-    let latest = of_counts.latest;
+    let shares = ready.counts.shares;
+    let g = ready.counts.g;
+    let latest = ready.counts.latest;
     let v = bases.v;
     let p = ready.p;
     cell_forecast(out, m, basis, counts, shares, g, latest, v, p);

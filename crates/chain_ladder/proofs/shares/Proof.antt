@@ -79,9 +79,9 @@ returns-2 c =
 returns-3 : tie.Need-returns-3
 unfolding sharesOf development
 returns-3 c =
-    let d = c .before .before .before .before .before .before .before .before .before in
+    let d = c .before .before .before .before .before .before .before in
     let b = one (two d) in
-    let z : sharesRefusal (m b) (f b) ≡ 0 = refused-by d ∙ c .before .before .before .before .before .before .before .if2 .left in
+    let z : sharesRefusal (m b) (f b) ≡ 0 = refused-by d ∙ c .before .before .before .before .before .if2 .left in
     let e = developed-is d ∙ developed-yes (m b) (set d .counts) (set d .paid) (sym (shares-after (m b) (f b) (read (two d) .read)) ∙ z) in
     ap (λ (x : Developed). record { refusal = 0; b = x .counts .shares; n = x .counts .ultimates; q = x .paid .shares; g = x .paid .g; u = x .paid .ultimates }) e
     ∙ sym (shares-yes (m b) (f b) z)

@@ -44,10 +44,10 @@ module _ (c : tie.After-develop) where
 -- the set is accepted
 module _ (c : tie.After-u) where
   abbrev one : tie.After-develop
-  one = c .before .before .before .before .before .before
+  one = c .before .before .before .before
 
   shared : Shared (m one) (set one .counts) (set one .paid)
-  shared = shared-set (m one) (set one) (valid one) (refusal-is one ∙ c .before .before .before .before .if1 .left)
+  shared = shared-set (m one) (set one) (valid one) (refusal-is one ∙ c .before .before .if1 .left)
 
   developed-is : one .develop .result ≡ bothDeveloped (m one) (set one .counts) (set one .paid)
   developed-is = one .develop .ensures ∙ developed-yes (m one) (set one .counts) (set one .paid) (shared .asked)

@@ -48,7 +48,7 @@ module _ (e : tie.Else1) where
 -- what is solved are their delays
 module _ (s : tie.After-solve) where
   abbrev two : tie.Else1
-  two = s .before .before .before .before .before
+  two = s .before .before .before
 
   abbrev p : List ℤ
   p = pairDelays (m (one two)) (c (one two)) (d (one two))
@@ -74,7 +74,7 @@ returns r =
 
 solve-requires : tie.Need-solve-requires
 unfolding development
-solve-requires r κs = let e = r .before .before .before .before in rw (developed-is e) (solvable (shared e))
+solve-requires r κs = let e = r .before .before in rw (developed-is e) (solvable (shared e))
 
 not-prepared-requires-2 : tie.Need-not-prepared-requires-2
 not-prepared-requires-2 c κs = search needs
@@ -88,9 +88,10 @@ returns-2 r =
 
 returns-3 : tie.Need-returns-3
 returns-3 r =
-    let s = r .before .before .before in
+    let e = r .before .before .before in
+    let s = e .before .before in
     let x = one (two s) in
-    let yes = sym (ok-is s) ∙ not-false _ (r .before .if2 .left) in
+    let yes = sym (ok-is s) ∙ not-false _ (e .if2 .left) in
     let delays : s .solve .result .p ≡ p s = ap (λ (y : Solved). y .p) (solved-is s) ∙ rw yes in
     ap₂ (λ (y : Developed) (l : List ℤ). record { refusal = 0; counts = y .counts; paid = y .paid; p = l }) (developed-is (two s)) delays
     ∙ sym (prepared-yes (m x) (c x) (d x) (none-refused (m x) (c x) (d x) (shared (two s) .asked) yes))

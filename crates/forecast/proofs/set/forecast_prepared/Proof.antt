@@ -51,7 +51,7 @@ returns c =
 
 cell-forecast-requires : tie.Need-cell-forecast-requires
 cell-forecast-requires c κs =
-    let e = c .before .before .before .before .before .before .before in
+    let e = c .before .before .before .before .before .before in
     let b = e .before .before in
     let a = start b .args in
     (years-ready (a .m) (some b .set) (a .method) (a .ready) (counts b) (incurred b) (some b .of) (y b) (b .method-bases .ensures) (e .if1 .left), start b .pre .1)
@@ -62,7 +62,7 @@ same-length c = search needs
 returns-2 : tie.Need-returns-2
 returns-2 c =
     let w = c .before .before in
-    let e = w .before .before .before .before .before .before .before .before in
+    let e = w .before .before .before .before .before .before .before in
     let b = e .before .before in
     let a = start b .args in
     let z = e .if1 .left in

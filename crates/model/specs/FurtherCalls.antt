@@ -1,4 +1,4 @@
--- Examples of our own, continued: the back-test, refusals by question, the writer and the tally. The
+-- More examples of our own: the back-test, refusals by question, the writer and the tally. The
 -- values are those of an independent calculation with big numbers.
 use Prim.Native.Nat.{ℕ, _-_, _^_}
 use mathlib.Core.Path.{_≡_, refl}
@@ -75,8 +75,8 @@ wrong-lengths = tt
 abbrev given : ℤ → ℤ → ℤ → List ℤ
 given x y z = x ∷ y ∷ replicate 18 (less (2 ^ 63)) ++ z ∷ replicate 379 (less (2 ^ 63))
 
--- what the writer refuses of m, K's counts with x in place of 90, its paid with y in place of 660 and
--- its incurred with z in place of 1080, with room for n bytes
+-- the writer's refusal of m and K's triangles, with x, y and z as the cells of year 2 and room for n
+-- bytes
 abbrev wrote : ℕ → Bool → ℤ → ℤ → ℤ → ℕ → ℕ
 wrote m there x y z n = writeRefusal m there (given (pos 80) (pos 20) x) (given (pos 600) (pos 400) y) (given (pos 900) (pos 100) z) n
 

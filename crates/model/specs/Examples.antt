@@ -236,6 +236,17 @@ pub examples : T (right table)
 unfolding opened
 examples = tt
 
+-- what the table states before rounding is what the definitions round
+pub n-rounded : (m : ℕ) (f : List ℕ) (i : ℕ) → ultimate m (setOf m f .counts) i ≡ r (above m f (ofN i)) (below m f (ofN i))
+unfolding ultimate above below
+n-rounded m f i = refl
+
+pub rbns-rounded :
+    (m : ℕ) (f : List ℕ) (method i j : ℕ)
+    → rbnsFrom m (rowBase m (setOf m f) method i) (sList m (setOf m f) 1 i) (delaysOf m (setOf m f)) i j ≡ r (above m f (ofRBNS method i j)) (below m f (ofRBNS method i j))
+unfolding rbnsFrom sList above below
+rbns-rounded m f method i j = refl
+
 pub other-examples : T (right others)
 unfolding opened
 other-examples = tt

@@ -1,4 +1,4 @@
--- Document 01, "Calendar years and the program".
+-- 01, Calendar years and the program.
 use Prim.Native.Nat.{ℕ, zero, suc, _+_, _-_, _*_, _/_, _%_, _^_}
 use mathlib.Core.Bool.{Bool, true, false, _&&_, cond}
 use mathlib.Core.List.{List, [], _∷_, _++_}
@@ -13,12 +13,13 @@ use Rattle.model.specs.declared.Run.the-variants.{Number, Wrong}
 use Rattle.model.specs.declared.FirstLine.{FirstLine}
 use Rattle.model.specs.declared.FirstLine.the-variants.{Asked, Refused}
 
--- "signed 64 bits": -2^63 to 2^63 - 1 (negsuc n is -(n + 1))
+-- z is a signed 64-bit number: -2^63 to 2^63 - 1 (negsuc n is -(n + 1))
 unfoldable pub fits64 : ℤ → Bool
 fits64 (pos n) = ltb n (2 ^ 63)
 fits64 (negsuc n) = ltb n (2 ^ 63)
 
--- "Adding one cell to the calendar-year tally gives the next tally. A calendar year outside 1 to 38, or a sum past signed 64 bits, gives the same tally back."
+-- the tally with a cell, RBNS x and IBNR y, added to its year: as it was for a year outside 1 to
+-- 38, or where either sum leaves 64 bits
 unfoldable pub tallyAdd : Tally → ℕ → ℤ → ℤ → Tally
 tallyAdd t year x y =
     let a = at (t .rbns) (year - 1) +ℤ x in
@@ -29,7 +30,7 @@ tallyAdd t year x y =
 abbrev pub emptyTally : Tally
 emptyTally = record { rbns = replicate 38 (pos 0); ibnr = replicate 38 (pos 0) }
 
--- "Calendar year t = i + j - m", of the n-th cell of the output: 0 where the cell is known
+-- t = i + j - m, of cell n of the output: 0 where the cell is known
 abbrev pub calendarYear : ℕ → ℕ → ℕ
 calendarYear m n = n / (2 * m - 1) + 1 + n % (2 * m - 1) - m
 

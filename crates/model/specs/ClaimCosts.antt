@@ -1,4 +1,4 @@
--- Document 01, "Claim-cost card": binary64 is that of lib.Ieee.
+-- 01, Claim-cost card: binary64 is that of lib.Ieee.
 use Prim.Native.Nat.{ℕ, suc, _-_}
 use mathlib.Core.Bool.{false, cond}
 use lib.Dec.{eqb}
@@ -14,7 +14,7 @@ use Rattle.model.specs.declared.YearInflation.{YearInflation}
 use Rattle.model.specs.declared.Inflation.{Inflation}
 use Rattle.model.specs.declared.Inflation.the-variants.{BaseYear, NoPaymentsYet, Ratio}
 
--- "each by one division of two whole numbers held exactly"
+-- two whole numbers as binary64, and their quotient, rounded once
 unfoldable pub quotient : ℤ → ℤ → Float
 quotient x y = div binary64 (ofInt binary64 x) (ofInt binary64 y)
 
@@ -22,15 +22,16 @@ quotient x y = div binary64 (ofInt binary64 x) (ofInt binary64 y)
 abbrev pub noFloat : Float
 noFloat = fin false 0 (pos 0)
 
--- "Mean cost is U(i) / N(i); mu is row 1's."
+-- year i's mean cost, U(i) / N(i)
 unfoldable pub meanCost : ℕ → TriangleSet → ℕ → Float
 meanCost m s i = quotient (ultimate m (s .paid) i) (ultimate m (s .counts) i)
 
--- "Factor f(j) = B(j) / A(j) of paid, at place j - 1."
+-- f(j), B(j) / A(j) of paid
 unfoldable pub factor : ℕ → TriangleSet → ℕ → Float
 factor m s j = quotient (B m (s .paid) j) (A m (s .paid) j)
 
--- "A year's inflation is base year (row 1), no payments yet (U(i) = 0), or a ratio: its mean cost divided by mu, one more division."
+-- year i's inflation: year 1 is the base, a year with U(i) = 0 has no payments yet, any other has
+-- the ratio of its mean cost to year 1's, rounded once more
 unfoldable pub inflation : ℕ → TriangleSet → ℕ → Inflation
 inflation m s i =
     cond (eqb i 1) BaseYear
@@ -40,7 +41,7 @@ inflation m s i =
 abbrev pub yearInflation : Inflation → YearInflation
 yearInflation x = record { value = x }
 
--- "A claim-cost card holds mu, the factors and the inflations as binary64"; "places past the last entry hold 0, or "no payments yet" for an inflation"
+-- the card: mu is year 1's mean cost, f(j) stands at place j - 1, year i's inflation at place i - 1
 unfoldable pub claimCosts : ℕ → TriangleSet → ClaimCosts
 claimCosts m s =
     record {
@@ -49,6 +50,6 @@ claimCosts m s =
       inflations = listed 20 m (λ k. yearInflation (inflation m s (suc k))) (yearInflation NoPaymentsYet);
     }
 
--- "On a refusal every value .. is 0, and every inflation "no payments yet"."
+-- the card beside a refusal
 unfoldable pub noClaimCosts : ClaimCosts
 noClaimCosts = record { mu = noFloat; factors = replicate 20 noFloat; inflations = replicate 20 (yearInflation NoPaymentsYet) }

@@ -1,10 +1,10 @@
--- Document 01, "Examples from a small shelf": one table, held to the definitions of the calls by computation.
+-- 01, Examples: one table, held to the definitions of the calls by computation.
 use Prim.Native.Nat.{ℕ, zero, suc, _+_, _*_, _-_, _/_, _%_, _^_}
 use mathlib.Core.Path.{_≡_, refl}
 use mathlib.Core.Bool.{Bool, true, false, _&&_}
 use mathlib.Core.List.{List, [], _∷_, _++_}
-use lib.Dec.{T, eqb}
-use lib.IntN.{ℤ, pos, negsuc, negℤ, _+ℤ_}
+use lib.Dec.{T, leb, eqb}
+use lib.IntN.{ℤ, pos, negsuc, negℤ, _+ℤ_, _-ℤ_, _*ℤ_}
 use lib.ListN.{replicate}
 use Rattle.integers.specs.Sums.{sum}
 use Rattle.model.specs.Lists.{tabulate, listed, at, every, total, count}
@@ -45,26 +45,26 @@ rowOf t i j (x ∷ xs) = rec t i j x ++ rowOf t i (j + 1) xs
 unfoldable pub two : ℕ → ℕ → ℕ → ℕ → List ℕ
 two t x y z = rowOf t 1 0 (x ∷ y ∷ []) ++ rowOf t 2 0 (z ∷ [])
 
--- "Set K, m = 2: counts 80, 20 / 90; paid 600, 400 / 660; incurred 900, 100 / 1080."
+-- set K: counts, paid and incurred
 unfoldable pub K : Example
 K = set 2 (two 0 80 20 90 ++ two 1 600 400 660 ++ two 2 900 100 1080)
 
--- "Counts 25, 75 / 50, paid 750, 250 / 750"
+-- late counts and early payments, whose second delay is the least that question 12 lets pass
 unfoldable pub late : Example
 late = set 2 (two 0 25 75 50 ++ two 1 750 250 750)
 
--- "Paid 751, 249 instead"
+-- the same with one unit paid earlier
 unfoldable pub later : Example
 later = set 2 (two 0 25 75 50 ++ two 1 751 249 750)
 
--- "Row 1 counts 1, 1000" (the rest as in K), and "With 1, 999"
+-- K with counts so late that g(0) is below 10^6, and with one count less, so that it is 10^6
 unfoldable pub thousand : Example
 thousand = set 2 (two 0 1 1000 90 ++ two 1 600 400 660)
 
 unfoldable pub thousandLess : Example
 thousandLess = set 2 (two 0 1 999 90 ++ two 1 600 400 660)
 
--- "Back-test, m = 3, c = 1: counts 80, 20, 0 / 90, 25 / 100, paid 600, 400, 50 / 660, 430 / 700"
+-- the set of the back-test, m = 3
 unfoldable pub past : Example
 past =
     set 3
@@ -73,12 +73,13 @@ past =
 
 -- ---- what is asked, and what the calls answer
 
--- methods and bases are named before years and delays, as in document 01's "DCL, basis 1, year 2: delay 1"
+-- a method and a basis are named before a year and a delay
 pub data Asked : Type 0 where
   b q p : ℕ → Asked
   U N : ℕ → Asked
   base : ℕ → ℕ → Asked
-  RBNS IBNR : ℕ → ℕ → ℕ → ℕ → Asked
+  RBNS IBNR together : ℕ → ℕ → ℕ → ℕ → Asked
+  unpaid : ℕ → Asked
   refusal : ℕ → ℕ → Asked
   sharesRefused : Asked
   countG : ℕ → Asked
@@ -104,6 +105,10 @@ answer m f (N i) = at (sharesAnswer m f .n) (i - 1)
 answer m f (base method i) = rowBase m (setOf m f) method i
 answer m f (RBNS method basis i j) = at (forecastOutput m f method basis (out m)) (placeOf m i j)
 answer m f (IBNR method basis i j) = at (forecastOutput m f method basis (out m)) (placeOf m i j + 1)
+answer m f (together method basis i j) =
+    let o = forecastOutput m f method basis (out m) in
+    at o (placeOf m i j) +ℤ at o (placeOf m i j + 1)
+answer m f (unpaid i) = at (sharesAnswer m f .u) (i - 1) -ℤ latest m (setOf m f .paid) i
 answer m f (refusal method basis) = pos (forecastAnswer m f method basis (size m) .refusal)
 answer m f sharesRefused = pos (sharesAnswer m f .refusal)
 answer m f (countG j) = g m (setOf m f .counts) j
@@ -116,9 +121,27 @@ answer m f (testedCell c method basis i j) =
 unfoldable pub answerOf : Example → Asked → ℤ
 answerOf (set m f) a = answer m f a
 
--- a row of the table: a set, what is asked of it, and the value that document 01 states
+-- what N(i), or an RBNS cell under basis 1, is rounded from
+pub data Rounded : Type 0 where
+  ofN : ℕ → Rounded
+  ofRBNS : ℕ → ℕ → ℕ → Rounded
+
+-- its upper and its lower number
+unfoldable pub above : ℕ → List ℕ → Rounded → ℤ
+above m f (ofN i) = latest m (setOf m f .counts) i *ℤ S
+above m f (ofRBNS method i j) =
+    let s = setOf m f in
+    rowBase m s method i *ℤ pairs m j (λ k. leb k (m - i)) (bList m (s .counts)) (delaysOf m s)
+
+unfoldable pub below : ℕ → List ℕ → Rounded → ℤ
+below m f (ofN i) = g m (setOf m f .counts) (m - i)
+below m f (ofRBNS method i j) = S *ℤ S
+
+-- a row of the table: a set, what is asked of it, and the value that 01 states; or what is asked
+-- before rounding, and x for the value x / 2
 pub data Row : Type 0 where
   row : Example → Asked → ℤ → Row
+  halves : Example → Rounded → ℤ → Row
 
 abbrev pub same : ℤ → ℤ → Bool
 same (pos x) (pos y) = eqb x y
@@ -126,34 +149,43 @@ same (pos x) (negsuc y) = false
 same (negsuc x) (pos y) = false
 same (negsuc x) (negsuc y) = eqb x y
 
+-- x / 2 is what is rounded, compared multiplied out
+unfoldable pub halved : Example → Rounded → ℤ → Bool
+halved (set m f) a x = same (above m f a *ℤ pos 2) (x *ℤ below m f a)
+
 -- each row's value is what the calls answer
 unfoldable pub right : List Row → Bool
 right [] = true
 right (row e a z ∷ rows) = same (answerOf e a) z && right rows
+right (halves e a x ∷ rows) = halved e a x && right rows
 
--- ---- the joint table of the examples marked (P)
+-- ---- the joint table of those marked (P)
 
 unfoldable pub table : List Row
 table =
-    -- "b = 0.8, 0.2 and q = 0.6, 0.4 of S"
+    -- b and q of K
     row K (b 0) (pos 800000000) ∷ row K (b 1) (pos 200000000)
     ∷ row K (q 0) (pos 600000000) ∷ row K (q 1) (pos 400000000)
-    -- "p = 750,000,000 and 312,500,000"
+    -- its delays
     ∷ row K (p 0) (pos 750000000) ∷ row K (p 1) (pos 312500000)
-    -- "U = 1000, 1100"; "N = 100, 113"
+    -- its ultimates
     ∷ row K (U 1) (pos 1000) ∷ row K (U 2) (pos 1100) ∷ row K (N 1) (pos 100) ∷ row K (N 2) (pos 113)
-    -- "DCL, basis 1, year 2: delay 1 RBNS 275, IBNR 165 ..; delay 2: 0 and 69."
+    -- N(2) before rounding, 112.5
+    ∷ halves K (ofN 2) (pos 225)
+    -- year 2 under DCL, basis 1: delays 1 and 2
     ∷ row K (RBNS 0 1 2 1) (pos 275) ∷ row K (IBNR 0 1 2 1) (pos 165) ∷ row K (RBNS 0 1 2 2) (pos 0) ∷ row K (IBNR 0 1 2 2) (pos 69)
-    -- "Year 1, delay 2: 63 and 0"
-    ∷ row K (RBNS 0 1 1 2) (pos 63) ∷ row K (IBNR 0 1 1 2) (pos 0)
-    -- "BDCL V(2) = 1200: delay 1 is 300 and 180."
+    -- delay 1 in all is what U(2) leaves to pay
+    ∷ row K (together 0 1 2 1) (pos 1100 -ℤ pos 660) ∷ row K (unpaid 2) (pos 1100 -ℤ pos 660)
+    -- year 1: delay 2, and its RBNS before rounding, 62.5
+    ∷ row K (RBNS 0 1 1 2) (pos 63) ∷ row K (IBNR 0 1 1 2) (pos 0) ∷ halves K (ofRBNS 0 1 2) (pos 125)
+    -- year 2 under BDCL: its base, and delay 1
     ∷ row K (base 1 2) (pos 1200) ∷ row K (RBNS 1 1 2 1) (pos 300) ∷ row K (IBNR 1 1 2 1) (pos 180)
-    -- "IDCL V(2) = 1350: 338 and 203."
+    -- and under IDCL
     ∷ row K (base 2 2) (pos 1350) ∷ row K (RBNS 2 1 2 1) (pos 338) ∷ row K (IBNR 2 1 2 1) (pos 203)
-    -- "delays 3 × 10^9 and -8 × 10^9, accepted; year 2, delay 1 is -2000 and 2250."
+    -- delays at the bound of question 12: accepted, with year 2's cells of delay 1
     ∷ row late (p 0) (pos (3 * 10 ^ 9)) ∷ row late (p 1) (negℤ (pos (8 * 10 ^ 9))) ∷ row late (refusal 0 1) (pos 0)
     ∷ row late (RBNS 0 1 2 1) (negℤ (pos 2000)) ∷ row late (IBNR 0 1 2 1) (pos 2250)
-    -- "Paid 751, 249 instead: refused 12."
+    -- a delay past it
     ∷ row later (refusal 0 1) (pos 12)
     ∷ []
 
@@ -161,18 +193,18 @@ table =
 
 unfoldable pub others : List Row
 others =
-    -- "Row 1 counts 1, 1000: g(0) = 999,001, refused 11. With 1, 999, question 11 is passed."
+    -- g(0) of counts below 10^6, and 10^6
     row thousand (countG 0) (pos 999001) ∷ row thousand (refusal 0 1) (pos 11) ∷ row thousandLess sharesRefused (pos 0)
-    -- "one cell, forecast 440, errors 10, 10, 10."
+    -- the back-test: its number of cells, the cell's forecast, and the three errors
     ∷ row past (tested 1 0 1 0) (pos 1) ∷ row past (testedCell 1 0 1 2 1) (pos 440)
     ∷ row past (tested 1 0 1 1) (pos 10) ∷ row past (tested 1 0 1 2) (pos 10) ∷ row past (tested 1 0 1 3) (pos 10)
     ∷ []
 
--- "2 0 1", a newline, and K without incurred
+-- what `closing` reads: "2 0 1", a newline, and K without incurred
 unfoldable pub asked : List ℕ
 asked = (50 ∷ 32 ∷ 48 ∷ 32 ∷ 49 ∷ 10 ∷ []) ++ two 0 80 20 90 ++ two 1 600 400 660
 
--- "1 338 165 503", "2 0 69 69", "T 338 234 572"
+-- what it prints: the lines "1 338 165 503", "2 0 69 69" and "T 338 234 572"
 unfoldable pub printed : List ℕ
 printed =
     49 ∷ 32 ∷ 51 ∷ 51 ∷ 56 ∷ 32 ∷ 49 ∷ 54 ∷ 53 ∷ 32 ∷ 53 ∷ 48 ∷ 51 ∷ 10
@@ -196,13 +228,24 @@ unfolding
     cutTo compared gap cellNumber cellwise yearGap yearwise overall
     q1 q2 q3 q4 q5 q6 q7 q8 q9 q10 q11 q12 q13 q14 kinds recordOk eachCell firstNo ofRecords ofFile ofShares ofDelays ofMethod ofForecast
     callRefusal readRefusal sharesRefusal sharesOf sharesAnswer delaysRefusal delaysAnswer forecastRefusal forecastAnswer forecastOutput backTestRefusal backTestOf backTestAnswer fileText closingOf closingText
-    bytes rec rowOf two K late later thousand thousandLess past out figures answer answerOf right table others asked printed
+    bytes rec rowOf two K late later thousand thousandLess past out figures answer answerOf above below halved right table others asked printed
 opened = 0
 
 -- the definitions give every value of the table
 pub examples : T (right table)
 unfolding opened
 examples = tt
+
+-- what the table states before rounding is what the definitions round
+pub n-rounded : (m : ℕ) (f : List ℕ) (i : ℕ) → ultimate m (setOf m f .counts) i ≡ r (above m f (ofN i)) (below m f (ofN i))
+unfolding ultimate above below
+n-rounded m f i = refl
+
+pub rbns-rounded :
+    (m : ℕ) (f : List ℕ) (method i j : ℕ)
+    → rbnsFrom m (rowBase m (setOf m f) method i) (sList m (setOf m f) 1 i) (delaysOf m (setOf m f)) i j ≡ r (above m f (ofRBNS method i j)) (below m f (ofRBNS method i j))
+unfolding rbnsFrom sList above below
+rbns-rounded m f method i j = refl
 
 pub other-examples : T (right others)
 unfolding opened

@@ -1,4 +1,5 @@
--- Examples of our own, for what document 01's examples leave open. The values are those of an independent calculation with big numbers.
+-- Examples of our own, for what 01's leave open. The values are those of an independent calculation
+-- with big numbers.
 use Prim.Native.Nat.{ℕ, _+_, _-_, _^_}
 use mathlib.Core.Path.{_≡_, refl}
 use mathlib.Core.Bool.{Bool, true, false, _&&_}
@@ -91,7 +92,8 @@ ones x y z = two 0 1 0 1 ++ two 1 x y z
 abbrev pub less : ℕ → ℤ
 less n = negℤ (pos n)
 
--- every entry of a forecast, and one past them that keeps its value; left overs by g = S, by no payments, and by a reserve that rounds away
+-- every entry of a forecast, and one past them that keeps its value; left overs by g = S, by no
+-- payments, and by a reserve that rounds away
 unfoldable pub forecasts : List Bool
 forecasts =
     sameList (forecastOutput 3 negative 2 0 (replicate 31 (pos 5)))
@@ -113,7 +115,7 @@ forecasts =
 
 unfoldable pub refusals : List Bool
 refusals =
-    -- 3: a kind that the length does not allow, year 0, a cell outside, one byte that should be zero
+    -- 3: a kind that the length does not allow, year 0, a cell outside, a spare byte not zero
     refused (rec 2 1 0 1 ++ rec 0 1 1 0 ++ rec 0 2 0 1 ++ two 1 1 0 1) 0 3 ∷ refused (rec 0 0 0 1 ++ rec 0 1 1 0 ++ rec 0 2 0 1 ++ two 1 1 0 1) 0 3
     ∷ refused (rec 0 1 0 1 ++ rec 0 2 1 0 ++ rec 0 2 0 1 ++ two 1 1 0 1) 0 3 ∷ refused (set K 7 1) 0 3
     -- 4: a cell twice and another missing; 5: a count of 10,000,001; 6: no incurred
@@ -121,12 +123,14 @@ refusals =
     ∷ refused (two 0 80 20 10000001 ++ two 1 600 400 660) 0 5 ∷ refused (two 0 80 20 90 ++ two 1 600 400 660) 1 6
     -- 9: a row without counts; 10: no paid money in row 1
     ∷ refused (two 0 80 20 0 ++ two 1 600 400 660) 0 9 ∷ refused (two 0 80 20 90 ++ two 1 0 0 660) 0 10
-    -- 13: A(1) = 0, B(1) = 0, a latest row sum below zero, g(0) = 999,001, g(0) = 5 × 10^9; not asked under method 0
+    -- 13: A(1) = 0, B(1) = 0, a latest row sum below zero, g(0) = 999,001, g(0) = 5 × 10^9; not
+    -- asked under method 0
     ∷ refused (ones 1 0 1 ++ two 2 0 1 1) 1 13 ∷ refused (ones 1 0 1 ++ two 2 1 (minus 1) 1) 1 13 ∷ refused (ones 1 0 1 ++ two 2 1 0 (minus 1)) 1 13
     ∷ refused (ones 1 0 1 ++ two 2 1 1000 1) 1 13 ∷ refused (ones 1 0 1 ++ two 2 5 (minus 4) 1) 1 13 ∷ refused (ones 1 0 1 ++ two 2 0 1 1) 0 0
     -- passed: g(0) = 10^6, g(0) = 4 × 10^9, a latest row sum of zero
     ∷ refused (ones 1 0 1 ++ two 2 1 999 1) 1 0 ∷ refused (ones 1 0 1 ++ two 2 4 (minus 3) 1) 1 0 ∷ refused (ones 1 0 1 ++ two 2 1 0 0) 1 0
-    -- 14: V(2) = 20001 × 10^10 under BDCL, and -14142136 × 14142137 under IDCL; passed: 2 × 10^14, and -14142135 × 14142136
+    -- 14: V(2) = 20001 × 10^10 under BDCL, and -14142136 × 14142137 under IDCL; passed: 2 × 10^14,
+    -- and -14142135 × 14142136
     ∷ refused (ones 20001 0 1 ++ two 2 1 0 (10 ^ 10)) 1 14 ∷ refused (ones 14142136 1 14142136 ++ two 2 1 0 0) 2 14
     ∷ refused (ones 20000 0 1 ++ two 2 1 0 (10 ^ 10)) 1 0 ∷ refused (ones 14142135 1 14142135 ++ two 2 1 0 0) 2 0
     ∷ []
@@ -147,7 +151,8 @@ pub further-refusals : T (allTrue refusals)
 unfolding opened-further
 further-refusals = tt
 
--- the claim costs of K: mu is 10, f(1) the number nearest 1000/600, and year 2's inflation (1100/113)/10, each division rounded
+-- the claim costs of K: mu is 10, f(1) the number nearest 1000/600, and year 2's inflation
+-- (1100/113)/10, each division rounded
 pub claim-costs : claimCostsAnswer 2 K ≡ record {
   refusal = 0;
   costs = record {

@@ -24,3 +24,4 @@ pub mod CallsLaws
 pub mod Agreement
 pub mod Examples
 pub mod Further
+pub mod FurtherCalls

@@ -1,4 +1,5 @@
--- Document 01, "Shares" and "Cell forecasts": what demand 3 compares, for a paid triangle t of size m and the output of a forecast.
+-- 01, Shares and Cell forecasts: what demand 3 compares, of a paid triangle t of size m and the
+-- output of a forecast.
 use Prim.Native.Nat.{ℕ, zero, suc, _+_, _-_, _≤_}
 use mathlib.Core.List.{List}
 use lib.IntN.{ℤ, pos, _+ℤ_, _-ℤ_, _*ℤ_}
@@ -10,7 +11,7 @@ use Rattle.model.specs.Rounding.{S}
 use Rattle.model.specs.Shares.{latest, A, B, g}
 use Rattle.model.specs.Cells.{placeOf}
 
--- "A fraction here is a pair of whole numbers"
+-- a fraction, as a pair of whole numbers
 pub record Fraction : Type 0 where
   pub upper : ℤ
   pub lower : ℤ
@@ -31,11 +32,11 @@ times x y = record { upper = x .upper *ℤ y .upper; lower = x .lower *ℤ y .lo
 abbrev pub over : Fraction → Fraction → Fraction
 over x y = record { upper = x .upper *ℤ y .lower; lower = x .lower *ℤ y .upper }
 
--- "A distance is a difference without its sign."
+-- the difference without its sign
 abbrev pub distance : Fraction → Fraction → Fraction
 distance x y = record { upper = ∣ minus x y .upper ∣; lower = minus x y .lower }
 
--- "G(m-1) = S and G(j-1) = G(j) × A(j) / B(j) of paid, never rounded": n steps down from m - 1
+-- G(m-1-n), the share g(m-1-n) before any rounding: n steps down from S
 unfoldable pub GDown : ℕ → List ℤ → ℕ → Fraction
 GDown m t zero = whole S
 GDown m t (suc n) = times (GDown m t n) (record { upper = A m t (m - 1 - n); lower = B m t (m - 1 - n) })
@@ -44,32 +45,32 @@ GDown m t (suc n) = times (GDown m t n) (record { upper = A m t (m - 1 - n); low
 unfoldable pub G : ℕ → List ℤ → ℕ → Fraction
 G m t j = GDown m t (m - 1 - j)
 
--- "the unrounded paid ultimate H of row i is C(i,m-i) × S / G(m-i)"
+-- H, row i's ultimate before any rounding
 unfoldable pub H : ℕ → List ℤ → ℕ → Fraction
 H m t i = over (whole (latest m t i *ℤ S)) (G m t (m - i))
 
--- "the unrounded paid chain-ladder reserve is that less C(i,m-i)"
+-- and what is left of it to pay
 unfoldable pub reserve : ℕ → List ℤ → ℕ → Fraction
 reserve m t i = minus (H m t i) (whole (latest m t i))
 
--- "Demand 3's sum for year i adds the RBNS and IBNR entries of the output at delays 0 to m - 1, as written"
+-- year i's sum: its RBNS and IBNR entries of the output up to delay m - 1
 unfoldable pub yearSum : ℕ → List ℤ → ℕ → ℤ
 yearSum m out i = sum m (λ j. at out (placeOf m i j) +ℤ at out (placeOf m i j + 1))
 
--- i + (i - 1) × H / g: "Demand 3's g is g(m-i) of paid"
+-- the bound, i + (i - 1) × H / g, with g that of row i's latest delay, m - i
 unfoldable pub bound : ℕ → List ℤ → ℕ → Fraction
 bound m t i = plus (whole (pos i)) (over (times (whole (pos (i - 1))) (H m t i)) (whole (g m t (m - i))))
 
--- x is at most y: "the lower one above zero for every accepted file"; "compared multiplied out in whole numbers, with nothing divided"
+-- x is at most y: both lower numbers are above zero, and the comparison is multiplied out
 pub record AtMost (x y : Fraction) : Type 0 where
   pub left-lower : pos 0 ⋖ x .lower
   pub right-lower : pos 0 ⋖ y .lower
   pub multiplied-out : x .upper *ℤ y .lower ⩽ y .upper *ℤ x .lower
 
--- demand 3 of year i: the year's sum is within the bound of the unrounded paid chain-ladder reserve
+-- demand 3 of year i: its sum is no farther from the reserve than the bound
 abbrev pub NearReserve : ℕ → List ℤ → List ℤ → ℕ → Type 0
 NearReserve m t out i = AtMost (distance (whole (yearSum m out i)) (reserve m t i)) (bound m t i)
 
--- demand 3: "every accident year i"
+-- demand 3, of every year
 abbrev pub NearReserves : ℕ → List ℤ → List ℤ → Type 0
 NearReserves m t out = (i : ℕ) → 1 ≤ i → i ≤ m → NearReserve m t out i

@@ -1,4 +1,5 @@
--- The whole answer of each public call, refusals included: what it hands back, and what the lent memory holds afterwards.
+-- The whole answer of each public call, refusals included: what it hands back, and what the lent
+-- memory holds afterwards.
 use Prim.Native.Nat.{ℕ, _-_, _≤_}
 use mathlib.Core.Path.{_≡_}
 use mathlib.Core.Bool.{Bool, true, false, cond}
@@ -27,7 +28,8 @@ use Rattle.model.specs.declared.BackTestAnswer.{BackTestAnswer}
 use Rattle.model.specs.declared.FirstLine.{FirstLine}
 use Rattle.model.specs.declared.FirstLine.the-variants.{Asked, Refused}
 
--- what a call with the refusal number n hands back: that of an accepted call where n is 0, else that of a refused one
+-- what a call with the refusal number n hands back: that of an accepted call where n is 0, else
+-- that of a refused one
 abbrev pub ifAccepted : {A : Type 0} → ℕ → A → A → A
 ifAccepted n accepted refused = cond (eqb n 0) accepted refused
 
@@ -61,9 +63,10 @@ readAnswer m f = let n = readRefusal m f in ifAccepted n (acceptedRead (setOf m 
 unfoldable pub writeRefusal : ℕ → Bool → List ℤ → List ℤ → List ℤ → ℕ → ℕ
 writeRefusal m hasIncurred c d e room = firstNo ((1, q1 m) ∷ (5, q5Writer m hasIncurred c d e) ∷ (7, q7Writer m hasIncurred room) ∷ [])
 
--- The output before and after, and the refusal number n. The order of the records is free (01, Triangle records); what holds of the bytes is named
--- by the fields: each cell stands there once and the bytes are the set's length, so nothing else does (once); they read back as the set (written);
--- the bytes past them are as before (kept).
+-- The output before and after, and the refusal number n. The order of the records is free (01,
+-- Triangle records); what holds of the bytes is named by the fields: each cell stands there once
+-- and the bytes are the set's length, so nothing else does (once); they read back as the set
+-- (written); the bytes past them are as before (kept).
 pub record Wrote (m : ℕ) (hasIncurred : Bool) (c d e : List ℤ) (before after : List ℕ) (n : ℕ) : Type 0 where
   pub result : n ≡ writeRefusal m hasIncurred c d e (length before)
   pub refused : (n ≡ 0 → ⊥) → after ≡ before
@@ -131,8 +134,8 @@ forecastOutput m f method basis before =
     let s = setOf m f in
     ifAccepted (forecastRefusal m f method basis (length before)) (outputFrom m s (delaysOf m s) method basis before) before
 
--- What the forecast hands back and leaves in the output, and demand 3: an accepted file under plain DCL with estimated counts (method 0, basis 1)
--- comes near its paid reserves.
+-- What the forecast hands back and leaves in the output, and demand 3: an accepted file under plain
+-- DCL with estimated counts (method 0, basis 1) comes near its paid reserves.
 pub record Forecasted (m : ℕ) (f : List ℕ) (method basis : ℕ) (before after : List ℤ) (a : ForecastAnswer) : Type 0 where
   pub result : a ≡ forecastAnswer m f method basis (length before)
   pub output : after ≡ forecastOutput m f method basis before

@@ -75,8 +75,8 @@ wrong-lengths = tt
 abbrev given : ℤ → ℤ → ℤ → List ℤ
 given x y z = x ∷ y ∷ replicate 18 (less (2 ^ 63)) ++ z ∷ replicate 379 (less (2 ^ 63))
 
--- the writer's refusal of m and K's triangles, with x, y and z as the cells of year 2 and room for n
--- bytes
+-- the writer's refusal of m and K's triangles, with x, y and z as the cells of year 2 and room for
+-- n bytes
 abbrev wrote : ℕ → Bool → ℤ → ℤ → ℤ → ℕ → ℕ
 wrote m there x y z n = writeRefusal m there (given (pos 80) (pos 20) x) (given (pos 600) (pos 400) y) (given (pos 900) (pos 100) z) n
 

@@ -1,4 +1,5 @@
--- A list with another written over it, as memory that is lent and filled from a place on. Assumes nothing.
+-- A list with another written over it, as memory that is lent and filled from a place on. Assumes
+-- nothing.
 use mathlib.Core.Path.{_≡_, sym, _∙_, ap}
 use mathlib.Core.List.{List, [], _∷_, _++_, append-assoc, append-nil}
 use Prim.Native.Nat.{ℕ, suc, _+_, _<_, _≤_}

@@ -17,7 +17,8 @@ use Rattle.model.specs.Tests.{by-test}
 
 -- ---- lists of questions
 
--- each question of a list got a yes: `search` finds a question's answer among the fields, wherever it stands
+-- each question of a list got a yes: `search` finds a question's answer among the fields, wherever
+-- it stands
 abbrev pub EachYes : List Question → Type 0
 EachYes [] = Unit {0}
 EachYes (q ∷ qs) = (q .1 ≡ true) × EachYes qs

@@ -1,11 +1,12 @@
-// The data that the library's calls take and hand back, and the one method, which stands with its struct. Their meaning is in specs/, a file for each
-// section of document 01.
+// The data that the library's calls take and hand back, and the one method, which stands with its
+// struct. Their meaning is in specs/, a file for each section of document 01.
 
 ghost use mathlib.Core.Path.{_≡_};
 ghost use lib.IntN.{_+ℤ_};
 ghost use Rattle.model.specs.Calendar.{fits64, tallyAdd};
 
-// A set of triangles: cell (i,j) at 20 × (i-1) + j, zeros in the other places. `has_incurred` says that incurred is there beside counts and paid.
+// A set of triangles: cell (i,j) at 20 × (i-1) + j, zeros in the other places. `has_incurred` says
+// that incurred is there beside counts and paid.
 pub struct TriangleSet {
     pub has_incurred: bool,
     pub counts: [i64; 400],
@@ -19,7 +20,8 @@ pub struct ReadAnswer {
     pub set: TriangleSet,
 }
 
-// Shares and ultimates: b and N of counts; q, g and U of paid. Delay j stands at place j, year i at place i - 1.
+// Shares and ultimates: b and N of counts; q, g and U of paid. Delay j stands at place j, year i at
+// place i - 1.
 pub struct SharesAnswer {
     pub refusal: u64,
     pub b: [i64; 20],
@@ -62,8 +64,8 @@ fn sum_fits(a: i64, b: i64) -> bool
 }
 
 impl Tally {
-    // The tally with a cell added to its calendar year's sums; the same tally for a year outside 1 to 38, or where a sum
-    // leaves the signed 64-bit numbers.
+    // The tally with a cell added to its calendar year's sums; the same tally for a year outside 1
+    // to 38, or where a sum leaves the signed 64-bit numbers.
     pub fn add(mut self, year: u64, rbns: i64, ibnr: i64) -> Tally
         ensures { λ r. ⌜ r ≡ tallyAdd self year rbns ibnr ⌝ }
     {
@@ -99,7 +101,8 @@ pub struct YearInflation {
     pub value: Inflation,
 }
 
-// Claim costs (document 01's claim-cost card): mu is the first year's mean cost, f(j) stands at place j - 1, year i's inflation at place i - 1.
+// Claim costs (document 01's claim-cost card): mu is the first year's mean cost, f(j) stands at
+// place j - 1, year i's inflation at place i - 1.
 pub struct ClaimCosts {
     pub mu: f64,
     pub factors: [f64; 20],
@@ -111,7 +114,8 @@ pub struct ClaimCostsAnswer {
     pub costs: ClaimCosts,
 }
 
-// The back-test: the number of cells, and the sums of absolute errors by cell, by calendar year and of the total.
+// The back-test: the number of cells, and the sums of absolute errors by cell, by calendar year and
+// of the total.
 pub struct BackTestAnswer {
     pub refusal: u64,
     pub cells: u64,
@@ -126,7 +130,8 @@ pub enum Run {
     Wrong,
 }
 
-// What the first line of `closing` asks: m, the method, the basis, and the place where the file starts.
+// What the first line of `closing` asks: m, the method, the basis, and the place where the file
+// starts.
 pub enum FirstLine {
     Asked(u64, u64, u64, usize),
     Refused,

@@ -16,7 +16,7 @@ use Rattle.model.specs.BackTest.{cutTo, gap, cellNumber, cellwise, yearwise, ov
 use Rattle.model.specs.Questions.{q6, q8, ofForecast}
 use Rattle.model.specs.CallsLaws as CallsLaws
 use Rattle.model.specs.CallsLaws.{if-accepted, if-refused}
-use Rattle.model.specs.Calls.{zeros, readRefusal, backTestRefusal, backTestOf, refusedBackTest, backTestAnswer}
+use Rattle.model.specs.Calls.{zeros, readRefusal, backTestRefusal, backTestOf, acceptedBackTest, refusedBackTest, backTestAnswer}
 use Rattle.model.specs.declared.TriangleSet.{TriangleSet}
 use Rattle.chain_ladder.specs.Valid.{Valid, few, paid-small}
 use Rattle.forecast.specs.SetForecast.{setRefusal, setOutput}
@@ -81,7 +81,7 @@ module _ (m : ℕ) (s : TriangleSet) (c method basis : ℕ) where
 
       pub test-yes : {d : List ℤ} {k x y z : ℕ} → d ≡ gaps m n out (s .paid) → k ≡ cellNumber c n
           → x ≡ cellwise n (cell d) → y ≡ yearwise n c (cell d) → z ≡ overall n (cell d)
-          → record { refusal = 0; cells = k; cellwise = x; yearwise = y; overall = z } ≡ setTest m s c method basis
+          → acceptedBackTest k x y z ≡ setTest m s c method basis
       unfolding setTest backTestOf
       test-yes d-is a b y t = rw (a, b, y, t, d-is, same-by-cell n made meant same, same-by-year n made meant same c, same-in-all n made meant same, accepted)
 

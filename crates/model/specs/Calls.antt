@@ -79,16 +79,11 @@ pub record Wrote (m : ℕ) (hasIncurred : Bool) (c d e : List ℤ) (before after
 unfoldable pub sharesRefusal : ℕ → List ℕ → ℕ
 sharesRefusal m f = let s = setOf m f in callRefusal m f [] (ofShares m (s .counts) (s .paid))
 
+abbrev pub acceptedShares : List ℤ → List ℤ → List ℤ → List ℤ → List ℤ → SharesAnswer
+acceptedShares b n q g u = record { refusal = 0; b = b; n = n; q = q; g = g; u = u }
+
 unfoldable pub sharesOf : ℕ → TriangleSet → SharesAnswer
-sharesOf m s =
-    record {
-      refusal = 0;
-      b = bList m (s .counts);
-      n = ultimates m (s .counts);
-      q = bList m (s .paid);
-      g = gList m (s .paid);
-      u = ultimates m (s .paid);
-    }
+sharesOf m s = acceptedShares (bList m (s .counts)) (ultimates m (s .counts)) (bList m (s .paid)) (gList m (s .paid)) (ultimates m (s .paid))
 
 abbrev pub refusedShares : ℕ → SharesAnswer
 refusedShares k = record { refusal = k; b = zeros 20; n = zeros 20; q = zeros 20; g = zeros 20; u = zeros 20 }
@@ -159,12 +154,15 @@ backTestRefusal m f c method basis =
     let s = cutTo (m - c) (setOf m f) in
     callRefusal m f ((6, q6 (hasIncurred m f) method basis) ∷ (8, q8 m c) ∷ []) (ofForecast (m - c) s (delaysOf (m - c) s) method)
 
+abbrev pub acceptedBackTest : ℕ → ℕ → ℕ → ℕ → BackTestAnswer
+acceptedBackTest cells cell year all = record { refusal = 0; cells = cells; cellwise = cell; yearwise = year; overall = all }
+
 unfoldable pub backTestOf : ℕ → TriangleSet → ℕ → ℕ → ℕ → BackTestAnswer
 backTestOf m s c method basis =
     let n = m - c in
     let p = delaysOf n (cutTo n s) in
     let d : ℕ → ℕ → ℤ = gap m n s p method basis in
-    record { refusal = 0; cells = cellNumber c n; cellwise = cellwise n d; yearwise = yearwise n c d; overall = overall n d }
+    acceptedBackTest (cellNumber c n) (cellwise n d) (yearwise n c d) (overall n d)
 
 abbrev pub refusedBackTest : ℕ → BackTestAnswer
 refusedBackTest n = record { refusal = n; cells = 0; cellwise = 0; yearwise = 0; overall = 0 }

@@ -12,7 +12,7 @@ use Rattle.model.specs.Records.{givenSet, setOf}
 use Rattle.model.specs.PaidReserve.{Fraction, GDown, G, H, reserve, bound}
 use Rattle.model.specs.ClaimCosts.{quotient, meanCost, factor, inflation, claimCosts, noClaimCosts, yearInflation}
 use Rattle.model.specs.Questions.{q5Writer, q7Writer}
-use Rattle.model.specs.Calls.{readAnswer, writeRefusal, forecastAnswer, forecastOutput, claimCostsAnswer, closingText}
+use Rattle.model.specs.Calls.{acceptedRead, readAnswer, writeRefusal, forecastAnswer, forecastOutput, acceptedClaimCosts, claimCostsAnswer, closingText}
 use Rattle.model.specs.Examples.{rec, rowOf, two, same, figures, opened, asked}
 use Rattle.model.specs.declared.Inflation.the-variants.{BaseYear, NoPaymentsYet, Ratio}
 
@@ -80,7 +80,7 @@ allTrue (t ∷ ts) = t && allTrue ts
 unfoldable pub refused : List ℕ → ℕ → ℕ → Bool
 refused f method n = eqb (forecastAnswer 2 f method 1 12 .refusal) n
 
--- the left overs of IDCL, basis 1, of a file with m = 3
+-- the leftovers of IDCL, basis 1, of a file with m = 3
 unfoldable pub leftOver3 : List ℕ → List ℤ → Bool
 leftOver3 f xs = sameList (take 3 (forecastAnswer 3 f 2 1 30 .leftovers)) xs
 
@@ -92,7 +92,7 @@ ones x y z = two 0 1 0 1 ++ two 1 x y z
 abbrev pub less : ℕ → ℤ
 less n = negℤ (pos n)
 
--- every entry of a forecast, and one past them that keeps its value; left overs by g = S, by no
+-- every entry of a forecast, and one past them that keeps its value; leftovers by g = S, by no
 -- payments, and by a reserve that rounds away
 unfoldable pub forecasts : List Bool
 forecasts =
@@ -153,19 +153,16 @@ further-refusals = tt
 
 -- the claim costs of K: mu is 10, f(1) the number nearest 1000/600, and year 2's inflation
 -- (1100/113)/10, each division rounded
-pub claim-costs : claimCostsAnswer 2 K ≡ record {
-  refusal = 0;
-  costs = record {
-    mu = fin false 5 (pos 1);
-    factors = fin false 7505999378950827 (negsuc 51) ∷ replicate 19 (fin false 0 (pos 0));
-    inflations = yearInflation BaseYear ∷ yearInflation (Ratio (fin false 4384035035493403 (negsuc 51))) ∷ replicate 18 (yearInflation NoPaymentsYet);
-  };
-}
+pub claim-costs : claimCostsAnswer 2 K ≡ acceptedClaimCosts (record {
+  mu = fin false 5 (pos 1);
+  factors = fin false 7505999378950827 (negsuc 51) ∷ replicate 19 (fin false 0 (pos 0));
+  inflations = yearInflation BaseYear ∷ yearInflation (Ratio (fin false 4384035035493403 (negsuc 51))) ∷ replicate 18 (yearInflation NoPaymentsYet);
+})
 unfolding opened-further
 claim-costs = refl
 
 -- the reader hands back what the writer was given: numbers past the cells aren't read
-pub given : readAnswer 2 K ≡ record { refusal = 0; set = givenSet 2 true (pos 80 ∷ pos 20 ∷ replicate 18 (pos 3) ++ pos 90 ∷ []) (pos 600 ∷ pos 400 ∷ replicate 18 (pos 3) ++ pos 660 ∷ []) (pos 900 ∷ pos 100 ∷ replicate 18 (pos 3) ++ pos 1080 ∷ []) }
+pub given : readAnswer 2 K ≡ acceptedRead (givenSet 2 true (pos 80 ∷ pos 20 ∷ replicate 18 (pos 3) ++ pos 90 ∷ []) (pos 600 ∷ pos 400 ∷ replicate 18 (pos 3) ++ pos 660 ∷ []) (pos 900 ∷ pos 100 ∷ replicate 18 (pos 3) ++ pos 1080 ∷ []))
 unfolding opened-further
 given = refl
 

@@ -10,11 +10,10 @@ use lib.ListN.{take, replicate}
 use Rattle.model.specs.PaidReserve.{yearSum}
 use Rattle.model.specs.Calendar.{tallyAdd}
 use Rattle.model.specs.Questions.{q1}
-use Rattle.model.specs.Calls.{readAnswer, writeRefusal, refusedRead, forecastAnswer, forecastOutput, backTestAnswer}
+use Rattle.model.specs.Calls.{readAnswer, writeRefusal, refusedRead, refusedForecast, forecastAnswer, forecastOutput, acceptedBackTest, refusedBackTest, backTestAnswer}
 use Rattle.model.specs.Examples.{rec, rowOf}
 use Rattle.model.specs.Further.{K, four, less, refused, opened-further}
 use Rattle.model.specs.declared.Tally.{Tally}
-use Rattle.model.specs.declared.BackTestAnswer.{BackTestAnswer}
 
 -- ---- the back-test
 
@@ -26,24 +25,20 @@ five =
     ++ rowOf 1 1 0 (500 ∷ 300 ∷ 100 ∷ 60 ∷ 10 ∷ []) ++ rowOf 1 2 0 (620 ∷ 350 ∷ 90 ∷ 40 ∷ []) ++ rowOf 1 3 0 (540 ∷ 410 ∷ 80 ∷ [])
     ++ rowOf 1 4 0 (690 ∷ 380 ∷ []) ++ rowOf 1 5 0 (700 ∷ [])
 
--- a back-test's refusal, its number of cells, and its errors by cell, by calendar year and in all
-abbrev back : ℕ → ℕ → ℕ → ℕ → ℕ → BackTestAnswer
-back n cells cell year all = record { refusal = n; cells = cells; cellwise = cell; yearwise = year; overall = all }
-
--- all three errors differ
-pub cut-two : backTestAnswer 5 five 2 0 0 ≡ back 0 3 154 94 40
+-- three cells, and all three errors differ
+pub cut-two : backTestAnswer 5 five 2 0 0 ≡ acceptedBackTest 3 154 94 40
 unfolding opened-further five
 cut-two = refl
 
 -- 8: of m = 4 the cut may be 2, but neither 3 nor 0
-pub cuts : (backTestAnswer 4 four 2 0 0 ≡ back 0 1 22 22 22) × (backTestAnswer 4 four 3 0 0 ≡ back 8 0 0 0 0) × (backTestAnswer 4 four 0 0 0 ≡ back 8 0 0 0 0)
+pub cuts : (backTestAnswer 4 four 2 0 0 ≡ acceptedBackTest 1 22 22 22) × (backTestAnswer 4 four 3 0 0 ≡ refusedBackTest 8) × (backTestAnswer 4 four 0 0 0 ≡ refusedBackTest 8)
 unfolding opened-further
 cuts = (refl, refl, refl)
 
 -- ---- the forecast
 
 -- 7: room for 11 of K's 12 entries, which keep their values
-pub short : (forecastAnswer 2 K 0 1 11 ≡ record { refusal = 7; leftovers = replicate 20 (pos 0) }) × (forecastOutput 2 K 0 1 (replicate 11 (pos 5)) ≡ replicate 11 (pos 5))
+pub short : (forecastAnswer 2 K 0 1 11 ≡ refusedForecast 7) × (forecastOutput 2 K 0 1 (replicate 11 (pos 5)) ≡ replicate 11 (pos 5))
 unfolding opened-further
 short = (refl, refl)
 

@@ -61,7 +61,7 @@ fn read_records(file: &[u8], m: usize, has_incurred: bool, n: usize) -> model::R
 pub fn read_set(file: &[u8], m: usize) -> model::ReadAnswer
     ensures { λ r. ⌜ r ≡ readAnswer m (now (file .entry)) ⌝ }
 {
-    if !questions::size_ok(m) {
+    if !questions::q1(m) {
         return refused(1);
     }
     let two = questions::set_records(m, false);
@@ -86,7 +86,7 @@ pub fn write_set(
 ) -> u64
     ensures { λ r. ⌜ Wrote m «has_incurred» counts paid incurred (now (out .entry)) (now (out .exit)) r ⌝ }
 {
-    if !questions::size_ok(m) {
+    if !questions::q1(m) {
         return 1;
     }
     if !questions::set_ok(m, has_incurred, counts, paid, incurred) {

@@ -14,7 +14,7 @@ ghost use Rattle.triangles.specs.OneRecord.{wellFormed};
 ghost use Rattle.triangles.specs.Places.{insideAt};
 
 // Question 1.
-pub fn size_ok(m: usize) -> bool
+pub fn q1(m: usize) -> bool
     ensures { λ r. ⌜ r ≡ q1 m ⌝ }
 {
     if m < 2 {

@@ -26,14 +26,14 @@ const REFUSED: [&str; 15] = [
     "refused 14",
 ];
 
-/// What is counted of the pages: method and basis at place 2 × method + basis.
-const PAGES: [&str; 6] = [
-    "page of method 0, basis 0",
-    "page of method 0, basis 1",
-    "page of method 1, basis 0",
-    "page of method 1, basis 1",
-    "page of method 2, basis 0",
-    "page of method 2, basis 1",
+/// What is counted of accepted inputs: method and basis at place 2 × method + basis.
+const TEXTS: [&str; 6] = [
+    "text of method 0, basis 0",
+    "text of method 0, basis 1",
+    "text of method 1, basis 0",
+    "text of method 1, basis 1",
+    "text of method 2, basis 0",
+    "text of method 2, basis 1",
 ];
 
 /// The seed's input.
@@ -41,8 +41,8 @@ pub fn of_case(seed: u64, accepted: &mut Accepted) -> Result<(), Difference> {
     let refusal = compare(seed, &closing_input(seed), accepted)?;
     if refusal == 0 {
         let case = case(seed);
-        let page = PAGES[(2 * case.method + case.basis) as usize];
-        *accepted.entry(page).or_default() += 1;
+        let text = TEXTS[(2 * case.method + case.basis) as usize];
+        *accepted.entry(text).or_default() += 1;
     }
     Ok(())
 }
@@ -101,7 +101,7 @@ pub fn compare(seed: u64, input: &[u8], accepted: &mut Accepted) -> Result<usize
     Ok(refusal)
 }
 
-/// The number of a refusal's text, 0 of a page.
+/// The number of a refusal's text, 0 of a forecast's text.
 fn refusal(text: &[u8]) -> usize {
     (1..REFUSED.len())
         .find(|&n| text == format!("refused {n}\n").as_bytes())

@@ -52,7 +52,7 @@ fn tally() {
     the_same("tally", &[]);
 }
 
-/// Every refusal that `closing` can print, and a page of every method and basis.
+/// Every refusal that `closing` can print, and a forecast's text of every method and basis.
 #[test]
 fn inputs() {
     let texts = [
@@ -69,12 +69,12 @@ fn inputs() {
         ("refused 12", 1, 0),
         ("refused 13", 1, 0),
         ("refused 14", 1, 0),
-        ("page of method 0, basis 0", 100, 0),
-        ("page of method 0, basis 1", 100, 0),
-        ("page of method 1, basis 0", 100, 0),
-        ("page of method 1, basis 1", 100, 0),
-        ("page of method 2, basis 0", 100, 0),
-        ("page of method 2, basis 1", 100, 0),
+        ("text of method 0, basis 0", 100, 0),
+        ("text of method 0, basis 1", 100, 0),
+        ("text of method 1, basis 0", 100, 0),
+        ("text of method 1, basis 1", 100, 0),
+        ("text of method 2, basis 0", 100, 0),
+        ("text of method 2, basis 1", 100, 0),
         ("too short", 500, 1_500),
     ];
     the_same("inputs", &texts);

@@ -118,8 +118,8 @@ fn longest_input() {
         }
         let input = [b"0020 0002 0001\n", &file(&set)[..]].concat();
         assert_eq!(input.len(), 10_095);
-        let page = closing(&input);
-        if page.starts_with(b"refused") {
+        let text = closing(&input);
+        if text.starts_with(b"refused") {
             continue;
         }
         accepted += 1;

@@ -74,7 +74,7 @@ fn closing_lines(input: &[u8]) -> Result<String, Refusal> {
     Ok(lines)
 }
 
-/// A line of the page: a year or T, both amounts and their sum.
+/// A line of the text: a year or T, both amounts and their sum.
 fn closing_line(name: &str, rbns: &Big, ibnr: &Big) -> String {
     format!("{name} {rbns} {ibnr} {}\n", rbns + ibnr)
 }

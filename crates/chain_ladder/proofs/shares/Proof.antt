@@ -6,7 +6,7 @@ use Prim.Native.Nat.{ℕ}
 use borrow.Author.Needs.{needs}
 use denote.Ref.{now}
 use Rattle.model.specs.Records.{setOf}
-use Rattle.model.specs.Calls.{readRefusal, sharesRefusal, sharesOf}
+use Rattle.model.specs.Calls.{readRefusal, acceptedShares, sharesRefusal, sharesOf}
 use Rattle.model.specs.CallsLaws.{read-refusal}
 use Rattle.model.specs.declared.TriangleSet.{TriangleSet}
 use Rattle.chain_ladder.specs.Accepted.{Accepted, accepted}
@@ -83,7 +83,7 @@ returns-3 c =
     let b = one (two d) in
     let z : sharesRefusal (m b) (f b) ≡ 0 = refused-by d ∙ c .before .before .before .before .before .if2 .left in
     let e = developed-is d ∙ developed-yes (m b) (set d .counts) (set d .paid) (sym (shares-after (m b) (f b) (read (two d) .read)) ∙ z) in
-    ap (λ (x : Developed). record { refusal = 0; b = x .counts .shares; n = x .counts .ultimates; q = x .paid .shares; g = x .paid .g; u = x .paid .ultimates }) e
+    ap (λ (x : Developed). acceptedShares (x .counts .shares) (x .counts .ultimates) (x .paid .shares) (x .paid .g) (x .paid .ultimates)) e
     ∙ sym (shares-yes (m b) (f b) z)
 
 pub shares-spec : {M : Type 1} → statement M

@@ -12,16 +12,16 @@ use Rattle.triangles.proofs.read_set.Tie as tie
 
 -- question 1 had a yes
 size : (c : tie.Else1) → q1 (c .before .before .before .args .m) ≡ true
-size c = passed (c .if1 .left) (c .before .size-ok .ensures)
+size c = passed (c .if1 .left) (c .before .q1 .ensures)
 
-size-ok-requires : tie.Need-size-ok-requires
-size-ok-requires c κs = search needs
+q1-requires : tie.Need-q1-requires
+q1-requires c κs = search needs
 
 refused-requires : tie.Need-refused-requires
 refused-requires c κs = search needs
 
 returns : tie.Need-returns
-returns c = c .refused .ensures ∙ no-1 _ _ (refused (c .before .if1 .taken) (c .before .before .size-ok .ensures))
+returns c = c .refused .ensures ∙ no-1 _ _ (refused (c .before .if1 .taken) (c .before .before .q1 .ensures))
 
 set-records-requires : tie.Need-set-records-requires
 set-records-requires c κs = size-so _ (size c) .1
@@ -70,7 +70,7 @@ pub read-set-spec : {M : Type 1} → statement M
 read-set-spec =
     tie.close
     (tie.spec
-    size-ok-requires
+    q1-requires
     refused-requires
     returns
     set-records-requires

@@ -13,17 +13,17 @@ use Rattle.triangles.proofs.write_set.Tie as tie
 
 -- question 1 had a yes
 size : (c : tie.Else1) → q1 (c .before .before .before .args .m) ≡ true
-size c = passed (c .if1 .left) (c .before .size-ok .ensures)
+size c = passed (c .if1 .left) (c .before .q1 .ensures)
 
 -- question 5 had a yes
 ranges : (c : tie.Else2) → let s = c .before .before .before .before .before .args in q5Writer (s .m) (s .has-incurred) (s .counts) (s .paid) (s .incurred) ≡ true
 ranges c = passed (c .if2 .left) (c .before .set-ok .ensures)
 
-size-ok-requires : tie.Need-size-ok-requires
-size-ok-requires c κs = search needs
+q1-requires : tie.Need-q1-requires
+q1-requires c κs = search needs
 
 returns : tie.Need-returns
-returns c = no-1 _ _ _ _ _ _ (refused (c .if1 .taken) (c .before .size-ok .ensures))
+returns c = no-1 _ _ _ _ _ _ (refused (c .if1 .taken) (c .before .q1 .ensures))
 
 set-ok-requires : tie.Need-set-ok-requires
 set-ok-requires c κs = size-so _ (size c) .1
@@ -65,7 +65,7 @@ pub write-set-spec : {M : Type 1} → statement M
 write-set-spec =
     tie.close
     (tie.spec
-    size-ok-requires
+    q1-requires
     returns
     set-ok-requires
     returns-2

@@ -300,8 +300,8 @@ static void tally(void) {
 
 static void respond(void) {
   uint8_t input[6 + PARDESUL_FILE_LENGTH(2, false)] = "2 0 1\n", text[PARDESUL_TEXT];
-  const char *page = "1 338 165 503\n2 0 69 69\nT 338 234 572\n";
-  const size_t length = strlen(page);
+  const char *printed = "1 338 165 503\n2 0 69 69\nT 338 234 572\n";
+  const size_t length = strlen(printed);
   set_file two = file_of(2, counts_k, paid_k, NULL), refused = too_wide();
   memcpy(input + 6, two.bytes, two.length);
   memset(text, BEFORE, sizeof text);
@@ -309,7 +309,7 @@ static void respond(void) {
              untouched(text, sizeof text),
          "an output that is too short for the text");
   expect(pardesul_respond(input, sizeof input, text, sizeof text) == length &&
-             memcmp(text, page, length) == 0,
+             memcmp(text, printed, length) == 0,
          "the text");
   expect(untouched(text + length, sizeof text - length), "the bytes past the text");
   expect(pardesul_respond(input, 5, text, sizeof text) == 10 &&

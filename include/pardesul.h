@@ -20,7 +20,7 @@
  * Memory. Pointers are not null, each is to as many places as its declaration says, and the memory
  * lent to one call does not overlap. An empty file or output is a pointer to anything and the
  * length 0. A call keeps nothing for the next one, so calls may run at the same time in several
- * threads. A call takes at most PARDESUL_STACK bytes of stack. */
+ * threads. PARDESUL_STACK bytes of stack are enough for any of them. */
 #ifndef PARDESUL_H
 #define PARDESUL_H
 
@@ -35,8 +35,20 @@ extern "C" {
 /* The version, 1,000,000 x major + 1,000 x minor + patch: 0.1.0. */
 #define PARDESUL_VERSION 1000
 
-/* The bytes of stack that are enough for any call; the back-test takes the most. */
-#define PARDESUL_STACK 131072
+/* The bytes of stack that are enough for each call, and for any of them: so many a thread has to
+ * have free when it makes the call. No theorem says so: the most that a call takes was measured
+ * (docs/RECORDS.md), and these are at least a tenth more, in whole KiB. Not in them is what a
+ * loader takes that looks for memcpy and memset only when they are first called. */
+#define PARDESUL_STACK_READ_SET (43 * 1024)
+#define PARDESUL_STACK_WRITE_SET (11 * 1024)
+#define PARDESUL_STACK_SHARES (38 * 1024)
+#define PARDESUL_STACK_DELAYS (38 * 1024)
+#define PARDESUL_STACK_CLAIM_COSTS (48 * 1024)
+#define PARDESUL_STACK_FORECAST (42 * 1024)
+#define PARDESUL_STACK_BACK_TEST (100 * 1024)
+#define PARDESUL_STACK_TALLY_ADD (3 * 1024)
+#define PARDESUL_STACK_RESPOND (62 * 1024)
+#define PARDESUL_STACK PARDESUL_STACK_BACK_TEST
 
 /* The numbers of a triangle, and the place of a cell. */
 #define PARDESUL_CELLS 400

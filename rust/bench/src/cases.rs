@@ -1,17 +1,21 @@
-//! The measured calls: each proved one with its plain counterpart, on the same file.
+//! The measured calls: each proved one with those of both peers, on the same file.
 
-use crate::plain;
+use crate::plain::Set;
+use crate::{expert, plain};
 use pardesul::calls;
 use reference::generate::{any_set, shuffled_file, Random};
 use std::hint::black_box;
 
 const SIZES: [usize; 4] = [2, 5, 10, 20];
 
-/// A call on the file of a set of m years: the proved one, then the plain one.
+/// The sides of a case: the proved call, the plain one and the expert's.
+pub const SIDES: usize = 3;
+
+/// A call on the file of a set of m years, by each side.
 pub struct Case {
     pub call: String,
     pub m: usize,
-    pub sides: [Box<dyn FnMut()>; 2],
+    pub sides: [Box<dyn FnMut()>; SIDES],
 }
 
 /// All of them, in the order of the table. Their files stay in memory to the program's end.
@@ -19,20 +23,21 @@ pub fn cases() -> Vec<Case> {
     let mut cases = Vec::new();
     for m in SIZES {
         let file = accepted_file(m).leak();
-        cases.extend([read(file, m), shares(file, m), delays(file, m)]);
+        cases.extend([read(file, m), write(file, m)]);
+        cases.extend([shares(file, m), delays(file, m)]);
         for method in 0..3 {
             cases.extend([0, 1].map(|basis| forecast(file, m, method, basis)));
         }
-        cases.push(claim_costs(file, m));
+        cases.extend([claim_costs(file, m), respond(file, m)]);
         if m > 2 {
-            cases.push(back_test(file, m));
+            cases.extend([1, m / 2].map(|cut| back_test(file, m, cut)));
         }
     }
     cases
 }
 
 /// The file of a set of this size with incurred, its records in any order, that every method and
-/// the back-test accept.
+/// both back-tests accept.
 fn accepted_file(m: usize) -> Vec<u8> {
     let mut random = Random::new(m as u64);
     loop {
@@ -41,10 +46,9 @@ fn accepted_file(m: usize) -> Vec<u8> {
             continue;
         }
         let file = shuffled_file(&mut random, &set);
-        let tested = m == 2 || plain::back_test(&file, m, 1, 0, 1).is_ok();
-        if tested
-            && (0..3).all(|method| plain::forecast(&file, m, method, 0, &mut [0; 1560]).is_ok())
-        {
+        let tested = |cut| plain::back_test(&file, m, cut, 0, 1).is_ok();
+        let forecast = |method| plain::forecast(&file, m, method, 0, &mut [0; 1560]).is_ok();
+        if (m == 2 || [1, m as u64 / 2].into_iter().all(tested)) && (0..3).all(forecast) {
             return file;
         }
     }
@@ -55,17 +59,19 @@ fn case(
     m: usize,
     proved: impl FnMut() + 'static,
     plain: impl FnMut() + 'static,
+    expert: impl FnMut() + 'static,
 ) -> Case {
     Case {
         call: call.into(),
         m,
-        sides: [Box::new(proved), Box::new(plain)],
+        sides: [Box::new(proved), Box::new(plain), Box::new(expert)],
     }
 }
 
 fn read(file: &'static [u8], m: usize) -> Case {
     let mut has_incurred = false;
     let [mut counts, mut paid, mut incurred] = [[0; 400]; 3];
+    let mut set = Set::zero();
     case(
         "read",
         m,
@@ -81,6 +87,41 @@ fn read(file: &'static [u8], m: usize) -> Case {
         },
         move || {
             black_box(plain::read_set(black_box(file), m)).ok();
+        },
+        move || {
+            black_box(expert::read_set(black_box(file), m, &mut set)).ok();
+        },
+    )
+}
+
+fn write(file: &'static [u8], m: usize) -> Case {
+    let set: &Set = Box::leak(Box::new(
+        plain::read_set(file, m).expect("an accepted file"),
+    ));
+    let [mut out, mut plain_out, mut expert_out] = [[0; 10_080]; 3];
+    case(
+        "write",
+        m,
+        move || {
+            let Set {
+                has_incurred,
+                triangles: [counts, paid, incurred],
+                ..
+            } = black_box(set);
+            black_box(calls::write_set(
+                m,
+                *has_incurred,
+                counts,
+                paid,
+                incurred,
+                &mut out,
+            ));
+        },
+        move || {
+            black_box(plain::write_set(black_box(set), &mut plain_out)).ok();
+        },
+        move || {
+            black_box(expert::write_set(black_box(set), &mut expert_out)).ok();
         },
     )
 }
@@ -99,6 +140,9 @@ fn shares(file: &'static [u8], m: usize) -> Case {
         move || {
             black_box(plain::shares(black_box(file), m)).ok();
         },
+        move || {
+            black_box(expert::shares(black_box(file), m)).ok();
+        },
     )
 }
 
@@ -113,11 +157,15 @@ fn delays(file: &'static [u8], m: usize) -> Case {
         move || {
             black_box(plain::delays(black_box(file), m)).ok();
         },
+        move || {
+            black_box(expert::delays(black_box(file), m)).ok();
+        },
     )
 }
 
 fn forecast(file: &'static [u8], m: usize, method: u64, basis: u64) -> Case {
-    let (mut out, mut plain_out, mut leftovers) = ([0; 1_560], [0; 1_560], [0; 20]);
+    let [mut out, mut plain_out, mut expert_out] = [[0; 1_560]; 3];
+    let mut leftovers = [0; 20];
     case(
         format!("forecast {method} {basis}"),
         m,
@@ -135,6 +183,10 @@ fn forecast(file: &'static [u8], m: usize, method: u64, basis: u64) -> Case {
         move || {
             let file = black_box(file);
             black_box(plain::forecast(file, m, method, basis, &mut plain_out)).ok();
+        },
+        move || {
+            let file = black_box(file);
+            black_box(expert::forecast(file, m, method, basis, &mut expert_out)).ok();
         },
     )
 }
@@ -158,19 +210,43 @@ fn claim_costs(file: &'static [u8], m: usize) -> Case {
         move || {
             black_box(plain::claim_costs(black_box(file), m)).ok();
         },
+        move || {
+            black_box(expert::claim_costs(black_box(file), m)).ok();
+        },
     )
 }
 
-fn back_test(file: &'static [u8], m: usize) -> Case {
-    let mut sums = [0; 4];
+fn respond(file: &[u8], m: usize) -> Case {
+    let input: &[u8] = [format!("{m} 0 1\n").as_bytes(), file].concat().leak();
+    let [mut out, mut plain_out, mut expert_out] = [[0; 2_573]; 3];
     case(
-        "back-test 0 1",
+        "respond 0 1",
         m,
         move || {
-            black_box(calls::back_test(black_box(file), m, 0, 1, 1, &mut sums));
+            black_box(calls::respond(black_box(input), &mut out));
         },
         move || {
-            black_box(plain::back_test(black_box(file), m, 1, 0, 1)).ok();
+            black_box(plain::respond(black_box(input), &mut plain_out));
+        },
+        move || {
+            black_box(expert::respond(black_box(input), &mut expert_out));
+        },
+    )
+}
+
+fn back_test(file: &'static [u8], m: usize, cut: usize) -> Case {
+    let (mut sums, c) = ([0; 4], cut as u64);
+    case(
+        format!("back-test 0 1, c = {cut}"),
+        m,
+        move || {
+            black_box(calls::back_test(black_box(file), m, 0, 1, cut, &mut sums));
+        },
+        move || {
+            black_box(plain::back_test(black_box(file), m, c, 0, 1)).ok();
+        },
+        move || {
+            black_box(expert::back_test(black_box(file), m, c, 0, 1)).ok();
         },
     )
 }

@@ -2,7 +2,7 @@
 //! itself once more under valgrind, and that run calls [`count`].
 
 use crate::callgrind;
-use crate::cases::cases;
+use crate::cases::{cases, SIDES};
 use std::env;
 use std::ffi::CString;
 use std::fs;
@@ -12,11 +12,11 @@ use std::process::Command;
 /// The argument that asks a program for [`count`].
 const COUNT: &str = "count";
 
-/// The instructions of a call, by the proved code and by the plain one.
+/// The instructions of a call, by each side of its case.
 pub struct Instructions {
     pub call: String,
     pub m: usize,
-    pub counts: [u64; 2],
+    pub counts: [u64; SIDES],
 }
 
 /// Whether this is the run under valgrind.
@@ -64,17 +64,17 @@ pub fn instructions(program: &Path) -> Result<Vec<Instructions>, String> {
     read(&text).ok_or_else(|| format!("{} is not as callgrind writes it", path.display()))
 }
 
-/// Reads callgrind's file: a part with a name and a total for each dump, the proved call's before
-/// the plain one's, and a part without a name for the program's end.
+/// Reads callgrind's file: a part with a name and a total for each dump, the sides of a case one
+/// after the other, and a part without a name for the program's end.
 fn read(text: &str) -> Option<Vec<Instructions>> {
     let lines = |start| {
         text.lines()
             .filter_map(move |line| line.strip_prefix(start))
     };
-    let names = lines("desc: Trigger: Client Request: ").step_by(2);
+    let names = lines("desc: Trigger: Client Request: ").step_by(SIDES);
     let totals: Option<Vec<u64>> = lines("totals: ").map(|total| total.parse().ok()).collect();
     names
-        .zip(totals?.chunks(2))
+        .zip(totals?.chunks(SIDES))
         .map(|(name, totals)| {
             let (call, m) = name.rsplit_once(", ")?;
             Some(Instructions {

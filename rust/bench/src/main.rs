@@ -1,5 +1,5 @@
-//! `cargo run --release -p bench` prints for each call the instructions and the nanoseconds of
-//! both, and their ratios, proved over plain.
+//! `cargo run --release -p bench` prints for each call the instructions and the nanoseconds, proved
+//! and of both peers, and the ratios, proved over the peer's.
 
 fn main() -> Result<(), String> {
     if bench::asked_to_count() {

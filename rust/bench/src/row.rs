@@ -1,6 +1,6 @@
 //! The table of what was measured.
 
-use crate::cases::cases;
+use crate::cases::{cases, SIDES};
 use crate::instructions::instructions;
 use crate::times::times;
 use std::env;
@@ -9,16 +9,17 @@ use std::str::FromStr;
 
 /// The table's head.
 pub const HEAD: &str = "\
-| call | m | instructions, proved | plain | ratio | ns, proved | plain | ratio |
-|---|---|---|---|---|---|---|---|
+| call | m | instructions, proved | plain | ratio | expert | ratio | ns, proved | plain | ratio | \
+expert | ratio |
+|---|---|---|---|---|---|---|---|---|---|---|---|
 ";
 
-/// A line of the table; of each pair, the proved call's number comes first.
+/// A line of the table; of each three, the proved call's number comes first, then the peers'.
 pub struct Row {
     pub call: String,
     pub m: usize,
-    pub instructions: [u64; 2],
-    pub nanoseconds: [u64; 2],
+    pub instructions: [u64; SIDES],
+    pub nanoseconds: [u64; SIDES],
 }
 
 /// All rows, measured now, in a program that answers [`asked_to_count`] with [`count`].
@@ -43,16 +44,20 @@ pub fn rows() -> Result<Vec<Row>, String> {
     Ok(rows.collect())
 }
 
-/// The proved call's over the plain one's.
-pub fn ratio([proved, plain]: [u64; 2]) -> f64 {
-    proved as f64 / plain as f64
+/// The proved call's over each peer's.
+pub fn ratios(sides: [u64; SIDES]) -> [f64; SIDES - 1] {
+    let [proved, peers @ ..] = sides;
+    peers.map(|peer| proved as f64 / peer as f64)
 }
 
 impl Display for Row {
     fn fmt(&self, to: &mut Formatter) -> fmt::Result {
         write!(to, "| {} | {} |", self.call, self.m)?;
-        for pair in [self.instructions, self.nanoseconds] {
-            write!(to, " {} | {} | {:.2} |", pair[0], pair[1], ratio(pair))?;
+        for sides in [self.instructions, self.nanoseconds] {
+            write!(to, " {} |", sides[0])?;
+            for (peer, ratio) in sides[1..].iter().zip(ratios(sides)) {
+                write!(to, " {peer} | {ratio:.2} |")?;
+            }
         }
         Ok(())
     }
@@ -65,11 +70,11 @@ impl FromStr for Row {
         let cells: Vec<&str> = line.split('|').map(str::trim).collect();
         let number = |cell: usize| cells[cell].parse().map_err(|_| ());
         match cells[..] {
-            ["", call, m, _, _, _, _, _, _, ""] => Ok(Row {
+            ["", call, m, _, _, _, _, _, _, _, _, _, _, ""] => Ok(Row {
                 call: call.to_string(),
                 m: m.parse().map_err(|_| ())?,
-                instructions: [number(3)?, number(4)?],
-                nanoseconds: [number(6)?, number(7)?],
+                instructions: [number(3)?, number(4)?, number(6)?],
+                nanoseconds: [number(8)?, number(9)?, number(11)?],
             }),
             _ => Err(()),
         }

@@ -1,6 +1,6 @@
 //! Nanoseconds of each call.
 
-use crate::cases::Case;
+use crate::cases::{Case, SIDES};
 use std::time::Instant;
 
 /// How often all cases are gone through, so that a busy moment of the machine meets few turns of
@@ -17,8 +17,8 @@ pub const ROUNDS: usize = PASSES * TURNS;
 const TURN: f64 = 2_000_000.0;
 
 /// The best time of each side of each case, in whole nanoseconds.
-pub fn times(cases: &mut [Case]) -> Vec<[u64; 2]> {
-    let mut best = vec![[f64::INFINITY; 2]; cases.len()];
+pub fn times(cases: &mut [Case]) -> Vec<[u64; SIDES]> {
+    let mut best = vec![[f64::INFINITY; SIDES]; cases.len()];
     for _ in 0..PASSES {
         for (case, best) in cases.iter_mut().zip(&mut best) {
             let calls = (TURN / time(&mut case.sides[1], 100)).ceil() as usize;

@@ -1,114 +1,182 @@
-//! The baseline against the independent calculation.
+//! The peers against the independent calculation.
 
-use bench::plain;
-use reference::generate::{case, Case};
-use reference::Inflation;
+use bench::plain::{BackTest, ClaimCosts, Inflation, Set, Shares};
+use bench::{expert, plain};
+use reference::generate::{case, closing_input, writer_case, Case};
 use std::sync::OnceLock;
 
 const CASES: u64 = 3_000;
 
-fn each_case(compare: impl Fn(u64, &Case)) {
+type Answer<T> = Result<T, u64>;
+type Forecast = fn(&[u8], usize, u64, u64, &mut [i64]) -> Answer<[i64; 20]>;
+
+/// The calls of a peer.
+struct Peer {
+    name: &'static str,
+    read_set: fn(&[u8], usize) -> Answer<Set>,
+    write_set: fn(&Set, &mut [u8]) -> Answer<()>,
+    shares: fn(&[u8], usize) -> Answer<Shares>,
+    delays: fn(&[u8], usize) -> Answer<[i64; 20]>,
+    forecast: Forecast,
+    claim_costs: fn(&[u8], usize) -> Answer<ClaimCosts>,
+    back_test: fn(&[u8], usize, u64, u64, u64) -> Answer<BackTest>,
+    respond: fn(&[u8], &mut [u8]) -> usize,
+}
+
+const PEERS: [Peer; 2] = [
+    Peer {
+        name: "plain",
+        read_set: plain::read_set,
+        write_set: plain::write_set,
+        shares: plain::shares,
+        delays: plain::delays,
+        forecast: plain::forecast,
+        claim_costs: plain::claim_costs,
+        back_test: plain::back_test,
+        respond: plain::respond,
+    },
+    Peer {
+        name: "expert",
+        read_set: |file, m| {
+            let mut set = Set {
+                triangles: [[7; 400]; 3],
+                ..Set::zero()
+            };
+            expert::read_set(file, m, &mut set).map(|()| set)
+        },
+        write_set: expert::write_set,
+        shares: expert::shares,
+        delays: expert::delays,
+        forecast: expert::forecast,
+        claim_costs: expert::claim_costs,
+        back_test: expert::back_test,
+        respond: expert::respond,
+    },
+];
+
+/// Each seed's case, and each peer with what to say of a difference.
+fn each_case(compare: impl Fn(u64, &Case, &Peer, &str)) {
     static MADE: OnceLock<Vec<Case>> = OnceLock::new();
     let cases = MADE.get_or_init(|| (0..CASES).map(case).collect());
     for (case, seed) in cases.iter().zip(0..) {
-        compare(seed, case);
-    }
-}
-
-fn plain_inflation(inflation: &Inflation) -> plain::Inflation {
-    match *inflation {
-        Inflation::BaseYear => plain::Inflation::BaseYear,
-        Inflation::NoPaymentsYet => plain::Inflation::NoPaymentsYet,
-        Inflation::Ratio(ratio) => plain::Inflation::Ratio(ratio),
+        for peer in &PEERS {
+            compare(seed, case, peer, &format!("{}, seed {seed}", peer.name));
+        }
     }
 }
 
 #[test]
 fn reader() {
-    each_case(|seed, case| {
-        let found = plain::read_set(&case.file, case.m as usize)
-            .map(|set| (set.has_incurred, set.triangles));
+    each_case(|_, case, peer, text| {
+        let found = (peer.read_set)(&case.file, case.m as usize);
+        let found = found.map(|set| (set.has_incurred, set.triangles));
         let wanted = reference::read_set(&case.file, case.m);
         let wanted = wanted.map(|set| (set.has_incurred, [set.counts, set.paid, set.incurred]));
-        assert_eq!(found, wanted, "seed {seed}");
+        assert_eq!(found, wanted, "{text}");
     });
+}
+
+/// The peers write in the reference's order, which is free.
+#[test]
+fn writer() {
+    for seed in 0..CASES {
+        let case = writer_case(seed);
+        let set = Set {
+            m: case.m as usize,
+            has_incurred: case.has_incurred,
+            triangles: [case.counts, case.paid, case.incurred],
+        };
+        let [counts, paid, incurred] = &set.triangles;
+        let mut wanted = vec![7; case.out_len];
+        let (m, has_incurred) = (case.m, case.has_incurred);
+        let answer = reference::write_set(m, has_incurred, counts, paid, incurred, &mut wanted);
+        for peer in &PEERS {
+            let mut out = vec![7; case.out_len];
+            let found = (peer.write_set)(&set, &mut out);
+            assert_eq!(
+                (found, &out),
+                (answer, &wanted),
+                "{}, seed {seed}",
+                peer.name
+            );
+        }
+    }
 }
 
 #[test]
 fn shares_and_delays() {
-    each_case(|seed, case| {
-        let found = plain::shares(&case.file, case.m as usize)
+    each_case(|_, case, peer, text| {
+        let found = (peer.shares)(&case.file, case.m as usize)
             .map(|found| [found.b, found.n, found.q, found.g, found.u]);
         let wanted = reference::shares(&case.file, case.m)
             .map(|found| [found.b, found.n, found.q, found.g, found.u]);
-        assert_eq!(found, wanted, "seed {seed}");
-        assert_eq!(
-            plain::delays(&case.file, case.m as usize),
-            reference::delays(&case.file, case.m),
-            "seed {seed}"
-        );
+        assert_eq!(found, wanted, "{text}");
+        let found = (peer.delays)(&case.file, case.m as usize);
+        assert_eq!(found, reference::delays(&case.file, case.m), "{text}");
     });
 }
 
 #[test]
 fn forecast() {
-    each_case(|seed, case| {
+    each_case(|_, case, peer, text| {
         let mut out = vec![7; case.out_len];
-        let found = plain::forecast(
-            &case.file,
-            case.m as usize,
-            case.method,
-            case.basis,
-            &mut out,
+        let (m, method, basis) = (case.m, case.method, case.basis);
+        let found = (peer.forecast)(&case.file, m as usize, method, basis, &mut out);
+        let wanted = reference::forecast(&case.file, m, method, basis, case.out_len);
+        let entries = wanted.as_ref().map_or(&[][..], |wanted| &wanted.entries);
+        assert_eq!(out[..entries.len()], *entries, "{text}");
+        assert!(
+            out[entries.len()..].iter().all(|&entry| entry == 7),
+            "{text}"
         );
-        match reference::forecast(&case.file, case.m, case.method, case.basis, case.out_len) {
-            Ok(wanted) => {
-                assert_eq!(found, Ok(wanted.leftovers), "seed {seed}");
-                let entries = wanted.entries.len();
-                assert_eq!(out[..entries], wanted.entries, "seed {seed}");
-                assert!(
-                    out[entries..].iter().all(|&entry| entry == 7),
-                    "seed {seed}"
-                );
-            }
-            Err(refusal) => {
-                assert_eq!(found, Err(refusal), "seed {seed}");
-                assert!(out.iter().all(|&entry| entry == 7), "seed {seed}");
-            }
-        }
+        assert_eq!(found, wanted.map(|wanted| wanted.leftovers), "{text}");
     });
 }
 
 #[test]
 fn claim_costs() {
-    each_case(|seed, case| {
-        let found = plain::claim_costs(&case.file, case.m as usize);
-        let wanted = reference::claim_costs(&case.file, case.m).map(|wanted| plain::ClaimCosts {
+    each_case(|_, case, peer, text| {
+        let found = (peer.claim_costs)(&case.file, case.m as usize);
+        let wanted = reference::claim_costs(&case.file, case.m).map(|wanted| ClaimCosts {
             mu: wanted.mu,
             factors: wanted.factors,
-            inflations: wanted.inflations.each_ref().map(plain_inflation),
+            inflations: wanted.inflations.map(|inflation| match inflation {
+                reference::Inflation::BaseYear => Inflation::BaseYear,
+                reference::Inflation::NoPaymentsYet => Inflation::NoPaymentsYet,
+                reference::Inflation::Ratio(ratio) => Inflation::Ratio(ratio),
+            }),
         });
-        assert_eq!(found, wanted, "seed {seed}");
+        assert_eq!(found, wanted, "{text}");
     });
 }
 
 #[test]
 fn back_test() {
-    each_case(|seed, case| {
-        let found = plain::back_test(
-            &case.file,
-            case.m as usize,
-            case.cut,
-            case.method,
-            case.basis,
-        );
-        let wanted = reference::back_test(&case.file, case.m, case.cut, case.method, case.basis);
-        let wanted = wanted.map(|wanted| plain::BackTest {
+    each_case(|_, case, peer, text| {
+        let (m, method, basis) = (case.m, case.method, case.basis);
+        let found = (peer.back_test)(&case.file, m as usize, case.cut, method, basis);
+        let wanted = reference::back_test(&case.file, m, case.cut, method, basis);
+        let wanted = wanted.map(|wanted| BackTest {
             cells: wanted.cells,
             cellwise: wanted.cellwise,
             yearwise: wanted.yearwise,
             overall: wanted.overall,
         });
-        assert_eq!(found, wanted, "seed {seed}");
+        assert_eq!(found, wanted, "{text}");
+    });
+}
+
+#[test]
+fn respond() {
+    each_case(|seed, _, peer, text| {
+        let input = closing_input(seed);
+        let wanted = reference::closing(&input);
+        let short = wanted.len() - 1;
+        let mut out = [7; 3_000];
+        assert_eq!((peer.respond)(&input, &mut out[..short]), 0, "{text}");
+        assert!(out.iter().all(|&byte| byte == 7), "{text}");
+        assert_eq!((peer.respond)(&input, &mut out), wanted.len(), "{text}");
+        assert_eq!(out[..wanted.len()], wanted, "{text}");
+        assert!(out[wanted.len()..].iter().all(|&byte| byte == 7), "{text}");
     });
 }

@@ -33,13 +33,13 @@ fn compile(compiler: &str, flags: &[&str], source: &Path, more: &[&Path]) -> Out
         .unwrap_or_else(|_| panic!("{compiler} is not there"))
 }
 
-/// Compiles a program against the library and runs it; it has to end with status 0.
-fn runs(name: &str) {
-    let program = own(name);
+/// A program compiled against the library ends with status 0.
+#[test]
+fn examples() {
+    let program = own("examples");
     let library = root().join("target/staticlib/libc_api.a");
-    let flags = [&STRICT[..], &["-pthread"]].concat();
     let more = [&library, Path::new("-o"), &program];
-    let compiled = compile("cc", &flags, &source(&format!("{name}.c")), &more);
+    let compiled = compile("cc", &STRICT, &source("examples.c"), &more);
     let said = String::from_utf8_lossy(&compiled.stderr);
     assert!(compiled.status.success(), "{said}");
     let run = Command::new(&program).output().expect("the program runs");
@@ -47,18 +47,8 @@ fn runs(name: &str) {
     assert!(run.status.success(), "{printed}");
 }
 
-#[test]
-fn examples() {
-    runs("examples");
-}
-
-/// No call takes more stack than the header says.
-#[test]
-fn stack() {
-    runs("stack");
-}
-
-/// Every function that the header declares is called by both programs.
+/// Every function that the header declares is called by the programs in C, here and where the stack
+/// is measured.
 #[test]
 fn every_function_is_called() {
     let header = read_to_string(root().join("include/pardesul.h")).unwrap();
@@ -68,8 +58,8 @@ fn every_function_is_called() {
         .filter_map(|line| line.split_once('(')?.0.split(' ').next_back())
         .collect();
     assert_eq!(functions.len(), 9, "{functions:?}");
-    for program in ["examples.c", "stack.c"] {
-        let text = read_to_string(source(program)).unwrap();
+    for program in [source("examples.c"), root().join("rust/records/stack.c")] {
+        let text = read_to_string(program).unwrap();
         for function in &functions {
             assert!(text.contains(&format!("{function}(")), "{function}");
         }

@@ -5,10 +5,12 @@ mod figures;
 mod kit;
 mod source_002;
 mod speed;
+mod stack;
 
 pub use figures::Seconds;
 pub use kit::{kit, written_kit};
 pub use speed::written_rows;
+pub use stack::{stacks, written_stacks, Stack};
 
 use bench::Row;
 use std::path::PathBuf;
@@ -22,10 +24,16 @@ pub fn root() -> PathBuf {
 }
 
 /// The text, of what was measured with a kit; the rest is calculated and counted now.
-pub fn text(kit: &str, rows: &[Row], seconds: &Seconds) -> Result<String, String> {
+pub fn text(
+    kit: &str,
+    rows: &[Row],
+    stacks: &[Stack],
+    seconds: &Seconds,
+) -> Result<String, String> {
     let sections = [
         source_002::section().map_err(|refusal| refusal.to_string())?,
         speed::section(rows),
+        stack::section(stacks),
         figures::section(seconds).map_err(|error| error.to_string())?,
     ];
     Ok(format!(

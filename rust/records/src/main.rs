@@ -1,7 +1,7 @@
 //! Measures, and writes docs/RECORDS.md. Of the gate's last run it takes the seconds, where the
 //! logs are there; else those that are written stay.
 
-use records::{kit, root, text, Seconds, COMMAND};
+use records::{kit, root, stacks, text, Seconds, COMMAND};
 use std::fs;
 
 fn main() -> Result<(), String> {
@@ -15,6 +15,7 @@ fn main() -> Result<(), String> {
     let path = root().join("docs/RECORDS.md");
     let mut seconds = Seconds::written(&fs::read_to_string(&path).unwrap_or_default());
     seconds.update();
-    let text = text(&kit()?, &bench::rows()?, &seconds)?;
+    let stacks = stacks()?;
+    let text = text(&kit()?, &bench::rows()?, &stacks, &seconds)?;
     fs::write(path, text).map_err(|error| error.to_string())
 }

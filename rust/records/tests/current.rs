@@ -1,6 +1,6 @@
 //! docs/RECORDS.md is current.
 
-use records::{root, text, written_kit, written_rows, Seconds, COMMAND};
+use records::{root, stacks, text, written_kit, written_rows, written_stacks, Seconds, COMMAND};
 use std::fs::read_to_string;
 use std::path::Path;
 
@@ -19,8 +19,8 @@ fn text_is_current() {
     let Some(kit) = written_kit(&written) else {
         stale("it names no kit".to_string());
     };
-    let seconds = Seconds::written(&written);
-    let now = text(kit, &written_rows(&written), &seconds).unwrap();
+    let (rows, stacks) = (written_rows(&written), written_stacks(&written));
+    let now = text(kit, &rows, &stacks, &Seconds::written(&written)).unwrap();
     if written != now {
         let different = written.lines().zip(now.lines()).find(|(was, is)| was != is);
         stale(format!("{different:?}"));
@@ -41,6 +41,22 @@ fn instructions_are_current() {
         if !same_call || was.abs_diff(is) * 100 > was * 3 {
             let now = format!("{}, m = {}, {is} instructions", counted.call, counted.m);
             stale(format!("'{row}' is {now}"));
+        }
+    }
+}
+
+/// No call takes more stack than the header states, which the program sees to, and each takes what
+/// the file has, up to 3 %.
+#[test]
+fn stack_is_current() {
+    let (written, measured) = (written_stacks(&written()), stacks().unwrap());
+    if written.len() != measured.len() {
+        stale(format!("{} calls are {}", written.len(), measured.len()));
+    }
+    for (was, is) in written.iter().zip(&measured) {
+        let same = was.call == is.call && was.stated == is.stated;
+        if !same || was.taken.abs_diff(is.taken) * 100 > was.taken * 3 {
+            stale(format!("'{was}' is '{is}'"));
         }
     }
 }

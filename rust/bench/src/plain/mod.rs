@@ -3,6 +3,7 @@
 
 mod back_test;
 mod claim_costs;
+mod closing;
 mod delays;
 mod forecast;
 mod records;
@@ -11,9 +12,11 @@ mod shares;
 
 pub use back_test::{back_test, BackTest};
 pub use claim_costs::{claim_costs, ClaimCosts, Inflation};
+pub use closing::{first_line, respond};
 pub use delays::delays;
-pub use forecast::forecast;
-pub use records::{read_set, Set};
+pub use forecast::{forecast, question_6};
+pub use records::{read_set, write_set, Set};
+pub use row_bases::RowBases;
 pub use shares::{shares, Shares};
 
 /// S.

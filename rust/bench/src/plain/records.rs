@@ -10,6 +10,17 @@ pub struct Set {
     pub triangles: [[i64; 400]; 3],
 }
 
+impl Set {
+    /// No years, and zeros.
+    pub fn zero() -> Set {
+        Set {
+            m: 0,
+            has_incurred: false,
+            triangles: [[0; 400]; 3],
+        }
+    }
+}
+
 const RANGES: [RangeInclusive<i64>; 3] = [
     0..=10_000_000,
     0..=10_000_000_000,
@@ -64,4 +75,29 @@ pub fn read_set(file: &[u8], m: usize) -> Result<Set, u64> {
         has_incurred,
         triangles,
     })
+}
+
+/// Questions 1, 5 and 7, and the set's records at the front of `out`.
+pub fn write_set(set: &Set, out: &mut [u8]) -> Result<(), u64> {
+    let m = set.m;
+    if !(2..=20).contains(&m) {
+        return Err(1);
+    }
+    let kinds = if set.has_incurred { 3 } else { 2 };
+    let cells = || (1..=m).flat_map(|i| (0..=m - i).map(move |j| (i, j)));
+    let value = |kind: usize, (i, j)| set.triangles[kind][20 * (i - 1) + j];
+    for (kind, range) in RANGES.iter().enumerate().take(kinds) {
+        if !cells().all(|cell| range.contains(&value(kind, cell))) {
+            return Err(5);
+        }
+    }
+    if out.len() < 8 * m * (m + 1) * kinds {
+        return Err(7);
+    }
+    let cells = (0..kinds).flat_map(|kind| cells().map(move |cell| (kind, cell)));
+    for (record, (kind, (i, j))) in out.chunks_exact_mut(16).zip(cells) {
+        record[..8].copy_from_slice(&[kind as u8, i as u8, j as u8, 0, 0, 0, 0, 0]);
+        record[8..].copy_from_slice(&value(kind, (i, j)).to_le_bytes());
+    }
+    Ok(())
 }

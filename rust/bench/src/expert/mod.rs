@@ -1,0 +1,47 @@
+//! Document 01 as an expert's safe Rust: one pass over the file, lists filled in place, sums that
+//! are carried on, 64 bits wherever the ranges allow, nothing allocated. It asks the same questions
+//! in the same order as the plain one, with the same types.
+
+mod back_test;
+mod cells;
+mod claim_costs;
+mod closing;
+mod delays;
+mod forecast;
+mod records;
+mod row_bases;
+mod shares;
+
+pub use back_test::back_test;
+pub use claim_costs::claim_costs;
+pub use closing::respond;
+pub use delays::delays;
+pub use forecast::forecast;
+pub use records::{read_set, write_set};
+pub use shares::shares;
+
+/// S.
+const SCALE: i64 = 1_000_000_000;
+
+/// The nearest whole number to a / b, with b above zero; halves go away from zero.
+fn nearest(a: i64, b: i64) -> i64 {
+    let b = b as u64;
+    let rounded = ((a.unsigned_abs() + b / 2) / b) as i64;
+    if a < 0 {
+        -rounded
+    } else {
+        rounded
+    }
+}
+
+/// The nearest whole number to a × b / c, with c above zero.
+fn nearest_of_product(a: i64, b: i64, c: i64) -> i128 {
+    let product = i128::from(a) * i128::from(b);
+    let c = c as u128;
+    let rounded = ((product.unsigned_abs() + c / 2) / c) as i128;
+    if product < 0 {
+        -rounded
+    } else {
+        rounded
+    }
+}

@@ -39,16 +39,16 @@ extern "C" {
  * have free when it makes the call. No theorem says so: the most that a call takes was measured
  * (docs/RECORDS.md), and these are at least a tenth more, in whole KiB. Not in them is what a
  * loader takes that looks for memcpy and memset only when they are first called. */
-#define PARDESUL_STACK_READ_SET (43 * 1024)
-#define PARDESUL_STACK_WRITE_SET (11 * 1024)
-#define PARDESUL_STACK_SHARES (38 * 1024)
-#define PARDESUL_STACK_DELAYS (38 * 1024)
-#define PARDESUL_STACK_CLAIM_COSTS (48 * 1024)
-#define PARDESUL_STACK_FORECAST (42 * 1024)
-#define PARDESUL_STACK_BACK_TEST (100 * 1024)
+#define PARDESUL_STACK_READ_SET (12 * 1024)
+#define PARDESUL_STACK_WRITE_SET (1 * 1024)
+#define PARDESUL_STACK_SHARES (14 * 1024)
+#define PARDESUL_STACK_DELAYS (15 * 1024)
+#define PARDESUL_STACK_CLAIM_COSTS (15 * 1024)
+#define PARDESUL_STACK_FORECAST (16 * 1024)
+#define PARDESUL_STACK_BACK_TEST (19 * 1024)
 #define PARDESUL_STACK_TALLY_ADD (3 * 1024)
-#define PARDESUL_STACK_RESPOND (62 * 1024)
-#define PARDESUL_STACK PARDESUL_STACK_BACK_TEST
+#define PARDESUL_STACK_RESPOND (34 * 1024)
+#define PARDESUL_STACK PARDESUL_STACK_RESPOND
 
 /* The numbers of a triangle, and the place of a cell. */
 #define PARDESUL_CELLS 400

@@ -6,11 +6,22 @@ use Prim.Native.Nat.{ℕ, _*_, zero-le}
 use borrow.Author.Tests.{le-ltb}
 use lib.IntN.{ℤ, pos, negsuc, negℤ, natAbs, _*ℤ_}
 use lib.Signed.{ltZ}
+use Rattle.integers.specs.Parts.{_⋖_}
+use Rattle.model.specs.Rounding.{r}
+use Rattle.arithmetic.specs.RoundingLaws.{r-neg}
 
--- −n where the first says so
+-- −z where the first says so
+abbrev pub turned : Bool → ℤ → ℤ
+turned true z = negℤ z
+turned false z = z
+
 abbrev pub signed : Bool → ℕ → ℤ
-signed true n = negℤ (pos n)
-signed false n = pos n
+signed t n = turned t (pos n)
+
+-- the sign goes through the rounding
+pub r-turned : (t : Bool) (a b : ℤ) → pos 0 ⋖ b → r (turned t a) b ≡ turned t (r a b)
+r-turned true a b h = r-neg a b h
+r-turned false a b h = refl
 
 -- a product's sign is by whether its factors' signs differ
 pub signed-* : (a x : ℤ) → signed (not (Bool·beq (ltZ a (pos 0)) (ltZ x (pos 0)))) (natAbs a * natAbs x) ≡ a *ℤ x

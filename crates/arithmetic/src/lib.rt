@@ -6,7 +6,7 @@ ghost use Prim.Native.Nat.{_+_, _*_, _/_, _^_, _<_, _≤_, min};
 ghost use lib.IntN.{pos, natAbs, _*ℤ_, _+ℤ_};
 ghost use Rattle.integers.specs.Parts.{_⩽_, _⋖_};
 ghost use Rattle.model.specs.Rounding.{S, r};
-ghost use Rattle.arithmetic.specs.Signed.{signed};
+ghost use Rattle.arithmetic.specs.Signed.{turned, signed};
 ghost use Rattle.arithmetic.specs.Wide.{Product};
 ghost use Rattle.arithmetic.specs.Capped.{capped};
 
@@ -35,10 +35,12 @@ const BASE: u64 = 65536;
 // S: shares are whole numbers of one part in S.
 pub const SCALE: i64 = 1000000000;
 
-// S without a sign, and its square.
+// S without a sign, its square, and half of that.
 const UNSIGNED_SCALE: u64 = SCALE as u64;
 
 const SQUARE: u64 = UNSIGNED_SCALE * UNSIGNED_SCALE;
+
+const HALF_SQUARE: u64 = SQUARE / 2;
 
 // The smaller of two numbers.
 pub fn smaller(a: usize, b: usize) -> usize
@@ -48,7 +50,7 @@ pub fn smaller(a: usize, b: usize) -> usize
 }
 
 // The whole number nearest to (q × d + rem) / d, from a quotient and a remainder toward zero. This
-// function alone knows how a half is rounded.
+// function and `round_by_square` alone know how a half is rounded.
 pub fn round_quotient(q: i64, rem: i64, d: i64) -> i64
     requires { ⌜ (pos 0 ⋖ d) × (natAbs d ≤ 10 ^ 18) × (natAbs rem < natAbs d) × (pos 0 ⩽ q *ℤ rem) × (natAbs q ≤ 9 * 10 ^ 18) ⌝ }
     ensures { λ k. ⌜ k ≡ r (q *ℤ d +ℤ rem) d ⌝ }
@@ -79,17 +81,21 @@ pub fn magnitude(a: i64) -> u64
     a as u64
 }
 
+// k, or its opposite where `negative` says so.
+fn with_sign(negative: bool, k: i64) -> i64
+    requires { ⌜ natAbs k ≤ 2 * 10 ^ 18 ⌝ }
+    ensures { λ z. ⌜ z ≡ turned negative k ⌝ }
+{
+    if negative { -k } else { k }
+}
+
 // The rounding of a quotient and a remainder of magnitudes, which stand for a number below zero
 // where `negative` says so.
 fn round_signed(negative: bool, q: u64, rem: u64, d: i64) -> i64
     requires { ⌜ (pos 0 ⋖ d) × (natAbs d ≤ 10 ^ 18) × (rem < natAbs d) × (q ≤ 10 ^ 18) ⌝ }
     ensures { λ k. ⌜ k ≡ r (signed negative (q * natAbs d + rem)) d ⌝ }
 {
-    if negative {
-        round_quotient(-(q as i64), -(rem as i64), d)
-    } else {
-        round_quotient(q as i64, rem as i64, d)
-    }
+    with_sign(negative, round_quotient(q as i64, rem as i64, d))
 }
 
 // a × x, digit by digit of x.
@@ -201,17 +207,23 @@ pub fn mul_div_capped(a: i64, x: i64, d: i64, cap: u64) -> Capped
     up_to(cap, round_wide(a, x, p, d))
 }
 
-// v × x / S², by digits in base S.
-fn divide_by_square(v: u64, x: u64) -> Quotient
+// 1 where n is at least a bound, else 0.
+fn reached(n: u64, bound: u64) -> u64
+    ensures { λ k. ⌜ (k ≤ 1) × (n < bound → k ≡ 0) × (bound ≤ n → k ≡ 1) ⌝ }
+{
+    if n < bound { 0 } else { 1 }
+}
+
+// The whole number nearest to v × x / S², by digits in base S. What the high digits leave is below
+// 2 × S², so that comparisons round it.
+fn round_by_square(v: u64, x: u64) -> u64
     requires { ⌜ (v ≤ 2 * 10 ^ 14) × (x ≤ 9 * 10 ^ 18) ⌝ }
-    ensures { λ s. ⌜ (s .q * 1000000000000000000 + s .rem ≡ v * x) × (s .rem < 1000000000000000000) × (s .q ≤ 10 ^ 18) ⌝ }
+    ensures { λ k. ⌜ (pos k ≡ r (pos (v * x)) (S *ℤ S)) × (k ≤ 10 ^ 18) ⌝ }
 {
     let mid = v / UNSIGNED_SCALE * (x % UNSIGNED_SCALE) + v % UNSIGNED_SCALE * (x / UNSIGNED_SCALE);
     let low = mid % UNSIGNED_SCALE * UNSIGNED_SCALE + v % UNSIGNED_SCALE * (x % UNSIGNED_SCALE);
-    Quotient {
-        q: v / UNSIGNED_SCALE * (x / UNSIGNED_SCALE) + mid / UNSIGNED_SCALE + low / SQUARE,
-        rem: low % SQUARE,
-    }
+    let q = v / UNSIGNED_SCALE * (x / UNSIGNED_SCALE) + mid / UNSIGNED_SCALE;
+    q + reached(low, HALF_SQUARE) + reached(low, SQUARE + HALF_SQUARE)
 }
 
 // A cell: the whole number nearest to v × x / S².
@@ -219,6 +231,9 @@ pub fn scale_cell(v: i64, x: i64) -> i64
     requires { ⌜ (natAbs v ≤ 2 * 10 ^ 14) × (natAbs x ≤ 9 * 10 ^ 18) ⌝ }
     ensures { λ k. ⌜ k ≡ r (v *ℤ x) (S *ℤ S) ⌝ }
 {
-    let s = divide_by_square(magnitude(v), magnitude(x));
-    round_signed((v < 0) != (x < 0), s.q, s.rem, SQUARE as i64)
+    if x == 0 {
+        return 0;
+    }
+    let k = round_by_square(magnitude(v), magnitude(x));
+    with_sign((v < 0) != (x < 0), k as i64)
 }

@@ -1,25 +1,26 @@
 -- Laws of the gaps: how many cells are compared, where they are read, their size, and that the list
 -- holds the model's gaps. Assumes nothing.
-use mathlib.Core.Path.{_≡_, _∙_}
-use mathlib.Core.Bool.{true, _&&_}
+use mathlib.Core.Path.{_≡_, refl, sym, _∙_}
+use mathlib.Core.Bool.{true, _&&_, cond}
+use mathlib.Core.Logic.{_⊎_, inl, inr}
 use mathlib.Core.List.{List}
 use Prim.Native.Nat.{ℕ, suc, _+_, _-_, _*_, _/_, _%_, _^_, _≤_, _<_}
-use native.Mathlib.Nat.{mul-le-mul}
 use native.Mathlib.Omega.{arith}
-use borrow.Author.Tests.{ltb-true, leb-true, eqb-true}
+use borrow.Author.Tests.{le-leb, lt-ltb, ltb-true, ltb-false, leb-true, eqb-true}
 use lib.Dec.{leb, ltb, eqb}
 use lib.IntN.{ℤ, pos, natAbs, _+ℤ_, _-ℤ_}
 use Rattle.integers.specs.Order.{so-true, natAbs-+ℤ, natAbs--ℤ}
-use Rattle.model.specs.Lists.{at}
-use Rattle.model.specs.ListsLaws.{getD-tabulate, every-at, and-left, and-right}
+use Rattle.model.specs.Lists.{at, listed}
+use Rattle.model.specs.ListsLaws.{getD-tabulate, tabulate-ext, every-at, and-left, and-right}
 use Rattle.model.specs.Records.{cell}
-use Rattle.model.specs.Cells.{placeOf, size, outputFrom}
-use Rattle.model.specs.CellsLaws.{place-inside, written-rbns, written-ibnr}
-use Rattle.model.specs.BackTest.{compared, cellNumber, cutTo, gap}
+use Rattle.model.specs.BackTest.{compared, cellNumber}
 use Rattle.model.specs.Agreement.{comparedCells, numbersAgree, cell-numbers}
-use Rattle.model.specs.declared.TriangleSet.{TriangleSet}
 use Rattle.model.specs.Tests.{by-test}
-use Rattle.back_test.specs.Gaps.{Forecast, gapFrom, gaps, SmallGaps}
+use Rattle.back_test.specs.Gaps.{Sizes, cellFrom, gapFrom, gapAt, gaps, SmallGaps}
+use Rattle.cells.specs.declared.cell.Cell.{Cell}
+use Rattle.cells.specs.Ready.{Ready}
+use Rattle.cells.specs.ReadyLaws.{year}
+use Rattle.cells.specs.SmallLaws.{cell-small}
 
 -- what a compared cell is
 pub compared-so : (m n i j : ℕ) → compared m n i j ≡ true → (i ≤ n) × (j < n) × (n < i + j) × (i + j ≤ m)
@@ -44,43 +45,54 @@ cells-compared m c few some most =
     let b = every-at (λ c. eqb (comparedCells (m - 3 + 3) (m - 3 + 2 - c)) (cellNumber (c + 1) (m - 3 + 2 - c))) (m - 3 + 1) (c - 1) a (omega arith) in
     rw (e, d, u) at (eqb-true (comparedCells (m - 3 + 3) (m - 3 + 2 - (c - 1))) (cellNumber (c - 1 + 1) (m - 3 + 2 - (c - 1))) b)
 
--- ---- the places that are read
-pub size-small : (n : ℕ) → n ≤ 20 → size n ≤ 1560
-size-small n h = let a : 2 * n ≤ 40 = omega arith in let b : 2 * n - 1 ≤ 39 = omega arith in omega (arith, mul-le-mul a b)
+-- ---- the list of the gaps
+module _ (m n : ℕ) where
+  -- a cell that is not compared
+  pub not-compared : (c : Cell) (paid : List ℤ) (i j : ℕ) → (n < i) ⊎ ((n ≤ j) ⊎ ((i + j ≤ n) ⊎ (m < i + j))) → gapFrom m n c paid i j ≡ pos 0
+  unfolding gapFrom
+  not-compared c paid i j h = by-test (compared m n i j) (λ e. let y = compared-so m n i j e in absurd (no y h)) (λ e. rw e)
+    where
+      no : (i ≤ n) × (j < n) × (n < i + j) × (i + j ≤ m) → (n < i) ⊎ ((n ≤ j) ⊎ ((i + j ≤ n) ⊎ (m < i + j))) → ⊥
+      no y (inl h) = omega arith
+      no y (inr (inl h)) = omega arith
+      no y (inr (inr (inl h))) = omega arith
+      no y (inr (inr (inr h))) = omega arith
 
--- ---- the gaps
-pub gap-is : (m n : ℕ) (s : TriangleSet) (p : List ℤ) (method basis : ℕ) (before : List ℤ) (i j : ℕ) → 1 ≤ i
-    → gapFrom m n (outputFrom n (cutTo n s) p method basis before) (s .paid) i j ≡ gap m n s p method basis i j
-unfolding gapFrom gap
-gap-is m n s p method basis before i j h =
-    by-test (compared m n i j)
-    (λ e. let b = compared-so m n i j e in
-    rw (e, written-rbns n i j h (omega arith) (cutTo n s) p method basis before (b .0), written-ibnr n i j h (omega arith) (cutTo n s) p method basis before (b .0)))
-    (λ e. rw e)
+  pub is-compared : (c : Cell) (paid : List ℤ) (i j : ℕ) → i ≤ n → j < n → n < i + j → i + j ≤ m → gapFrom m n c paid i j ≡ c .rbns +ℤ c .ibnr -ℤ cell paid i j
+  unfolding gapFrom compared
+  is-compared c paid i j h k l u = rw (le-leb i n h, lt-ltb j n k, lt-ltb n (i + j) l, le-leb (i + j) m u)
 
--- in the list
-pub gaps-at : (m n : ℕ) (out paid : List ℤ) (k j : ℕ) → k < 20 → j < 20 → cell (gaps m n out paid) (suc k) j ≡ gapFrom m n out paid (suc k) j
+-- places that hold 0 anyhow
+pub listed-skip : (n a b : ℕ) (f : ℕ → ℤ) → a ≤ b → ((q : ℕ) → a ≤ q → q < b → f q ≡ pos 0) → listed n a f (pos 0) ≡ listed n b f (pos 0)
+unfolding listed
+listed-skip n a b f h zero-at =
+    tabulate-ext n (λ q. cond (ltb q a) (f q) (pos 0)) (λ q. cond (ltb q b) (f q) (pos 0))
+    (λ q l. by-test (ltb q a) (λ e. let k = ltb-true q a e in rw (e, lt-ltb q b (omega arith)))
+    (λ e. let k = ltb-false q a e in by-test (ltb q b) (λ u. rw (e, u) (sym (zero-at q k (ltb-true q b u)))) (λ u. rw (e, u))))
+
+-- cell (k + 1, j) of the list
+pub gaps-at : (m n : ℕ) (c : ℕ → ℕ → Cell) (paid : List ℤ) (k j : ℕ) → k < 20 → j < 20 → cell (gaps m n c paid) (suc k) j ≡ gapFrom m n (c (suc k) j) paid (suc k) j
 unfolding gaps
-gaps-at m n out paid k j h l =
+gaps-at m n c paid k j h l =
     let y : (20 * (suc k - 1) + j) / 20 + 1 ≡ suc k = omega arith in
     let d : (20 * (suc k - 1) + j) % 20 ≡ j = omega arith in
-    getD-tabulate 400 (λ p. gapFrom m n out paid (p / 20 + 1) (p % 20)) (20 * (suc k - 1) + j) (pos 0) (omega arith) ∙ rw (y, d)
+    getD-tabulate 400 (gapAt m n c paid) (20 * (suc k - 1) + j) (pos 0) (omega arith) ∙ rw (y, d)
 
-module _ (m n : ℕ) (out paid : List ℤ) (f : Forecast m n out paid) (i j : ℕ) (h : 1 ≤ i) where
-  pub parts-small : compared m n i j ≡ true → (natAbs (at out (placeOf n i j)) ≤ 2 * 10 ^ 15) × (natAbs (at out (placeOf n i j + 1)) ≤ 2 * 10 ^ 15) × (natAbs (cell paid i j) ≤ 10 ^ 10)
-  parts-small e =
-      let b = compared-so m n i j e in
-      let l = place-inside n i j h (omega arith) (b .0) in
-      (f .entries (placeOf n i j) (omega arith), f .entries (placeOf n i j + 1) l, f .cells i j h (b .3))
+-- ---- how large a gap gets
+three : (x y z : ℤ) → natAbs x ≤ 2 * 10 ^ 15 → natAbs y ≤ 2 * 10 ^ 15 → natAbs z ≤ 10 ^ 10 → natAbs (x +ℤ y -ℤ z) ≤ 5 * 10 ^ 15
+three x y z a b c = omega (arith, natAbs--ℤ (x +ℤ y) z, natAbs-+ℤ x y)
 
-  pub gap-small : natAbs (gapFrom m n out paid i j) ≤ 5 * 10 ^ 15
+module _ {m n : ℕ} {paid : List ℤ} (z : Sizes m n paid) where
+  pub gap-small : (c : Cell) (i j : ℕ) → 1 ≤ i → (i ≤ n → j < n → (natAbs (c .rbns) ≤ 2 * 10 ^ 15) × (natAbs (c .ibnr) ≤ 2 * 10 ^ 15)) → natAbs (gapFrom m n c paid i j) ≤ 5 * 10 ^ 15
   unfolding gapFrom
-  gap-small =
-      by-test (compared m n i j) (λ e. let b = parts-small e in rw e (three (at out (placeOf n i j)) (at out (placeOf n i j + 1)) (cell paid i j) (b .0) (b .1) (b .2)))
+  gap-small c i j h small =
+      by-test (compared m n i j)
+      (λ e. let y = compared-so m n i j e in let s = small (y .0) (y .1) in rw e (three (c .rbns) (c .ibnr) (cell paid i j) (s .0) (s .1) (z .cells i j h (y .3))))
       (λ e. rw e (omega arith))
-    where
-      three : (x y z : ℤ) → natAbs x ≤ 2 * 10 ^ 15 → natAbs y ≤ 2 * 10 ^ 15 → natAbs z ≤ 10 ^ 10 → natAbs (x +ℤ y -ℤ z) ≤ 5 * 10 ^ 15
-      three x y z a b c = omega (arith, natAbs--ℤ (x +ℤ y) z, natAbs-+ℤ x y)
 
-pub gaps-small : (m n : ℕ) (out paid : List ℤ) → Forecast m n out paid → SmallGaps (gaps m n out paid)
-gaps-small m n out paid f = record { gap = λ k j h l. rw (gaps-at m n out paid k j h l) (gap-small m n out paid f (suc k) j (omega arith)) }
+  pub gaps-small : {t b g latest v p : List ℤ} (basis : ℕ) → Ready n t b g latest v p → SmallGaps (gaps m n (cellFrom n t basis b g latest v p) paid)
+  gaps-small {t} {b} {g} {latest} {v} {p} basis ready = record {
+    gap = λ k j h l. rw (gaps-at m n (cellFrom n t basis b g latest v p) paid k j h l) (gap-small (cellFrom n t basis b g latest v p (suc k) j) (suc k) j (omega arith)
+        (λ u w. let e : n - (suc k - 1) ≡ n - suc k + 1 = omega arith in
+        rw e (cell-small (year ready (suc k) (omega arith) u basis (λ _. refl) refl) (at v (suc k - 1)) (ready .bases (suc k - 1) (omega arith)) j (omega arith))));
+  }

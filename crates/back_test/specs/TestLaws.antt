@@ -1,30 +1,31 @@
 -- Laws of the back-test: of a set, from its forecast and its errors; of a file, its refusal
 -- question by question. Assumes nothing.
 use mathlib.Core.Path.{_≡_, sym, _∙_, ap}
-use mathlib.Core.Bool.{true, false, and-false}
+use mathlib.Core.Bool.{Bool, true, false, and-false}
 use mathlib.Core.List.{List}
 use Prim.Native.Nat.{ℕ, suc, _+_, _-_, _≤_, _<_}
 use native.Mathlib.Omega.{arith}
 use borrow.Author.Tests.{le-leb, lt-leb}
 use lib.Dec.{leb}
 use lib.IntN.{ℤ}
-use lib.ListN.{length}
 use Rattle.model.specs.Records.{cell, setOf, hasIncurred}
 use Rattle.model.specs.Delays.{delaysOf}
-use Rattle.model.specs.Cells.{size, outputFrom}
+use Rattle.model.specs.Cells.{rbns, ibnr}
+use Rattle.model.specs.Lent.{triangleIn, lentSet}
 use Rattle.model.specs.BackTest.{cutTo, gap, cellNumber, cellwise, yearwise, overall}
 use Rattle.model.specs.Questions.{q6, q8, ofForecast}
 use Rattle.model.specs.CallsLaws as CallsLaws
-use Rattle.model.specs.CallsLaws.{if-accepted, if-refused}
-use Rattle.model.specs.Calls.{zeros, readRefusal, backTestRefusal, backTestOf, acceptedBackTest, refusedBackTest, backTestAnswer}
+use Rattle.model.specs.CallsLaws.{if-refused}
+use Rattle.model.specs.Calls.{readRefusal, backTestRefusal, backTestOf, acceptedBackTest, refusedBackTest, backTestAnswer}
 use Rattle.model.specs.declared.TriangleSet.{TriangleSet}
-use Rattle.chain_ladder.specs.Valid.{Valid, few, paid-small}
-use Rattle.forecast.specs.SetForecast.{setRefusal, setOutput}
-use Rattle.forecast.specs.SmallEntries.{output-small}
-use Rattle.back_test.specs.Gaps.{Forecast, gaps}
-use Rattle.back_test.specs.GapsLaws.{gap-is, gaps-at, size-small}
+use Rattle.chain_ladder.specs.Sums.{Small}
+use Rattle.chain_ladder.specs.Valid.{Amounts}
+use Rattle.cells.specs.declared.cell.Cell.{Cell}
+use Rattle.forecast.specs.SetForecast.{InRange, setRefusal}
+use Rattle.back_test.specs.Gaps.{Sizes, gapFrom, gaps}
+use Rattle.back_test.specs.GapsLaws.{gaps-at}
 use Rattle.back_test.specs.ErrorsLaws.{same-by-cell, same-by-year, same-in-all}
-use Rattle.back_test.specs.CutLaws as CutLaws
+use Rattle.back_test.specs.SameCells.{SameSet, delays-same, refusal-same, rbns-same, ibnr-same, cut-same}
 use Rattle.back_test.specs.SetTest.{setTest}
 
 -- ---- of a set
@@ -39,51 +40,65 @@ module _ (m : ℕ) (s : TriangleSet) (c method basis : ℕ) where
   unfolding setTest
   test-no k o e = if-refused _ _ _ (λ z. o (sym e ∙ z)) ∙ ap refusedBackTest e
 
-  module _ (valid : Valid m s) (six : q6 (s .«has_incurred») method basis ≡ true) (some : 1 ≤ c) (most : c + 2 ≤ m) where
-    pub sizes : (2 ≤ n) × (n ≤ 20) × (c ≤ 20)
-    sizes = let f = few m s valid in (omega arith, omega arith, omega arith)
+-- ---- of a lent set, from what the code made of it at size n
+module _ {m : ℕ} {set : List ℤ} {method c : ℕ} (ok : InRange m set method) (some : 1 ≤ c) (most : c + 2 ≤ m) where
+  pub sizes : Sizes m (m - c) (triangleIn 1 set)
+  sizes = record { least = omega arith; less = omega arith; few = ok .counts .small .few; cells = ok .paid .small .cells }
 
-    pub known-valid : Valid n known
-    known-valid = CutLaws.cut-valid m n s valid (sizes .0) (omega arith)
+  smaller : {n : ℕ} {t : List ℤ} → Small m n t → Small (m - c) n t
+  smaller small = record { few = (let l = small .few in omega arith); cells = λ i j h l. small .cells i j h (omega arith) }
 
-    pub known-six : q6 (known .«has_incurred») method basis ≡ true
-    unfolding cutTo
-    known-six = six
+  fewer : {n : ℕ} {t : List ℤ} → Amounts m n t → Amounts (m - c) n t
+  fewer a = record { least = omega arith; nonneg = λ i j h l. a .nonneg i j h (omega arith); small = smaller (a .small) }
 
-    pub room : size n ≤ 1560
-    room = size-small n (sizes .1)
+  pub cut-ok : InRange (m - c) set method
+  cut-ok = record { counts = fewer (ok .counts); paid = fewer (ok .paid); known = ok .known; incurred = λ n. smaller (ok .incurred n) }
 
-    module _ (accepted : setRefusal n known method ≡ 0) (out : List ℤ) (out-is : out ≡ setOutput n known method basis (zeros 1560)) where
-      written : out ≡ outputFrom n known (delaysOf n known) method basis (zeros 1560)
-      written = out-is ∙ if-accepted _ _ _ accepted
+  module _ (has : Bool) where
+    abbrev lent : TriangleSet
+    lent = lentSet has set
 
-      pub forecast-so : length out ≡ 1560 → Forecast m n out (s .paid)
-      forecast-so l = record {
-        least = sizes .0;
-        less = omega arith;
-        few = few m s valid;
-        room = omega (arith, room);
-        entries = rw written (output-small n known method basis known-valid known-six accepted (zeros 1560));
-        cells = paid-small m s valid .cells;
-      }
+    abbrev size : ℕ
+    size = m - c
 
-      -- the gaps as they are made, and the model's
+    few-years : size ≤ 20
+    few-years = let l = ok .counts .small .few in omega arith
+
+    cut : SameSet size (cutTo size lent) lent
+    cut = cut-same size (omega arith) few-years lent
+
+    pub cut-refusal : setRefusal size (cutTo size lent) method ≡ setRefusal size lent method
+    cut-refusal = refusal-same cut method
+
+    cut-delays : delaysOf size (cutTo size lent) ≡ delaysOf size lent
+    cut-delays = delays-same cut
+
+    -- the gaps as they are made, from cells that are those of the set, and the model's
+    module _ (basis : ℕ) (cells : ℕ → ℕ → Cell)
+        (are : (i j : ℕ) → 1 ≤ i → i ≤ size → j < 39 → cells i j ≡ record { rbns = rbns size lent (delaysOf size lent) method basis i j; ibnr = ibnr size lent (delaysOf size lent) method i j }) where
       abbrev made : ℕ → ℕ → ℤ
-      made = cell (gaps m n out (s .paid))
+      made = cell (gaps m size cells (triangleIn 1 set))
 
       abbrev meant : ℕ → ℕ → ℤ
-      meant = gap m n s (delaysOf n known) method basis
+      meant = gap m size lent (delaysOf size (cutTo size lent)) method basis
 
-      same : (k j : ℕ) → k < n → j < n → made (suc k) j ≡ meant (suc k) j
+      same : (k j : ℕ) → k < size → j < size → made (suc k) j ≡ meant (suc k) j
+      unfolding gapFrom gap
       same k j h l =
-          gaps-at m n out (s .paid) k j (omega (arith, sizes .1)) (omega (arith, sizes .1))
-          ∙ rw written (gap-is m n s (delaysOf n known) method basis (zeros 1560) (suc k) j (omega arith))
+          gaps-at m size cells (triangleIn 1 set) k j (omega (arith, few-years)) (omega (arith, few-years))
+          ∙ rw (
+            are (suc k) j (omega arith) h (omega (arith, few-years)),
+            cut-delays,
+            rbns-same cut (delaysOf size lent) method basis (suc k) j (omega arith) h,
+            ibnr-same cut (delaysOf size lent) method (suc k) j (omega arith) h,
+          )
 
-      pub test-yes : {d : List ℤ} {k x y z : ℕ} → d ≡ gaps m n out (s .paid) → k ≡ cellNumber c n
-          → x ≡ cellwise n (cell d) → y ≡ yearwise n c (cell d) → z ≡ overall n (cell d)
-          → acceptedBackTest k x y z ≡ setTest m s c method basis
+      pub test-yes : setRefusal size lent method ≡ 0 → {d : List ℤ} {k x y z : ℕ} → d ≡ gaps m size cells (triangleIn 1 set) → k ≡ cellNumber c size
+          → x ≡ cellwise size (cell d) → y ≡ yearwise size c (cell d) → z ≡ overall size (cell d)
+          → acceptedBackTest k x y z ≡ setTest m lent c method basis
       unfolding setTest backTestOf
-      test-yes d-is a b y t = rw (a, b, y, t, d-is, same-by-cell n made meant same, same-by-year n made meant same c, same-in-all n made meant same, accepted)
+      test-yes accepted d-is a b y t =
+          rw (a, b, y, t, d-is, same-by-cell size made meant same, same-by-year size made meant same c, same-in-all size made meant same, cut-refusal ∙ accepted)
 
 -- ---- of a file: the refusal, question by question
 module _ (m : ℕ) (f : List ℕ) (c method basis : ℕ) where

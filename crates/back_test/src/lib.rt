@@ -1,24 +1,23 @@
 // The back-test of a file: the forecast of the set without its latest calendar years, held against
-// what was paid in them. The cut, the gaps and their sums serve any number of later years: with
-// n + 1 in the place of m the gaps are those of the one year after a set of size n.
-pub mod cut;
+// what was paid in them. A set is cut by its size: with n in the place of m only the cells with
+// i + j <= n are looked at. The gaps and their sums serve any number of later years: with n + 1 in
+// the place of m the gaps are those of the one year after a set of size n.
 pub mod errors;
 pub mod gaps;
 
-use cut::cut;
+use chain_ladder::ladder::shares_of;
 use errors::cell_number;
 use errors::cellwise;
 use errors::overall;
 use errors::yearwise;
 use gaps::gaps;
 use model::BackTestAnswer;
-use model::TriangleSet;
 ghost use mathlib.Core.Path.{_≡_};
-ghost use mathlib.Core.Bool.{true};
+ghost use mathlib.Core.Bool.{Bool};
 ghost use Prim.Native.Nat.{_+_, _≤_};
-ghost use Rattle.model.specs.Questions.{q6};
 ghost use Rattle.model.specs.Calls.{refusedBackTest, backTestAnswer};
-ghost use Rattle.chain_ladder.specs.Valid.{Valid};
+ghost use Rattle.model.specs.Lent.{lentSet};
+ghost use Rattle.forecast.specs.SetForecast.{InRange};
 ghost use Rattle.back_test.specs.SetTest.{setTest};
 
 // A refusal, with zeros beside it.
@@ -35,18 +34,56 @@ fn refused(number: u64) -> BackTestAnswer
 }
 
 // Questions 9 to 14 of the cut set, and the back-test of a set.
-fn test_set(set: TriangleSet, m: usize, method: u64, basis: u64, c: usize) -> BackTestAnswer
-    requires { ⌜ Valid m set × (q6 (set .«has_incurred») method basis ≡ true) × (1 ≤ c) × (c + 2 ≤ m) ⌝ }
-    ensures { λ r. ⌜ r ≡ setTest m set c method basis ⌝ }
+fn test_set(set: &[i64; 1200], m: usize, method: u64, basis: u64, c: usize) -> BackTestAnswer
+    requires { ⌜ InRange m (now set) method × (1 ≤ c) × (c + 2 ≤ m) ⌝ }
+    ensures { λ r. ⌜ ((has : Bool) → r ≡ setTest m (lentSet has (now (set .entry))) c method basis) ⌝ }
 {
     let n = m - c;
-    let known = cut(set, n);
-    let mut entries = [0i64; 1560];
-    let answer = forecast::forecast_set(known, n, method, basis, &mut entries);
-    if answer.refusal != 0 {
-        return refused(answer.refusal);
+    let mut count_latest = [0i64; 20];
+    let mut count_g = [0i64; 20];
+    let mut paid_latest = [0i64; 20];
+    let mut paid_g = [0i64; 20];
+    let mut p = [0i64; 20];
+    let refusal = delays::prepare(
+        set,
+        n,
+        &mut count_latest,
+        &mut count_g,
+        &mut paid_latest,
+        &mut paid_g,
+        &mut p,
+    );
+    if refusal != 0 {
+        return refused(refusal);
     }
-    let d = gaps(&entries, &set.paid, m, n);
+    let mut v = [0i64; 20];
+    let mut leftovers = [0i64; 20];
+    let refusal = row_bases::method_bases(
+        set,
+        n,
+        method,
+        &paid_latest,
+        &paid_g,
+        &mut v,
+        &mut leftovers,
+    );
+    if refusal != 0 {
+        return refused(refusal);
+    }
+    let shares = shares_of(&count_g, n);
+    let mut d = [0i64; 400];
+    gaps(
+        &mut d,
+        set,
+        m,
+        n,
+        basis,
+        &shares,
+        &count_g,
+        &count_latest,
+        &v,
+        &p,
+    );
     let cells = cell_number(c, n);
     let cellwise = cellwise(&d, n);
     let yearwise = yearwise(&d, n, c);
@@ -65,11 +102,13 @@ fn test_set(set: TriangleSet, m: usize, method: u64, basis: u64, c: usize) -> Ba
 pub fn back_test(file: &[u8], m: usize, method: u64, basis: u64, c: usize) -> BackTestAnswer
     ensures { λ r. ⌜ r ≡ backTestAnswer m (now (file .entry)) c method basis ⌝ }
 {
-    let read = triangles::read_set(file, m);
-    if read.refusal != 0 {
-        return refused(read.refusal);
+    let mut set = [0i64; 1200];
+    let refusal = triangles::read_cells(file, m, &mut set);
+    if refusal != 0 {
+        return refused(refusal);
     }
-    if !forecast::q6(read.set.has_incurred, method, basis) {
+    let has_incurred = triangles::has_incurred(file, m);
+    if !forecast::q6(has_incurred, method, basis) {
         return refused(6);
     }
     if c < 1 {
@@ -78,5 +117,5 @@ pub fn back_test(file: &[u8], m: usize, method: u64, basis: u64, c: usize) -> Ba
     if m - 2 < c {
         return refused(8);
     }
-    test_set(read.set, m, method, basis, c)
+    test_set(&set, m, method, basis, c)
 }

@@ -1,6 +1,5 @@
 // The claim costs.
 use model::Inflation;
-use model::YearInflation;
 ghost use mathlib.Core.Path.{_≡_};
 ghost use Rattle.model.specs.Calls.{ifAccepted, claimCostsAnswer};
 ghost use Rattle.c_api.specs.Inflations.{kindOf, ratioOf, kindsOf, ratiosOf};
@@ -27,36 +26,6 @@ fn ratio(value: Inflation) -> f64
     }
 }
 
-// The kinds of a list of inflations.
-fn kinds_of(list: [YearInflation; 20]) -> [u8; 20]
-    ensures { λ r. ⌜ r ≡ kindsOf list ⌝ }
-{
-    let mut out = [0u8; 20];
-    let mut k = 0;
-    while k < 20 {
-        let year = list[k];
-        let value = year.value;
-        out[k] = kind(value);
-        k += 1;
-    }
-    out
-}
-
-// The ratios of a list of inflations.
-fn ratios_of(list: [YearInflation; 20]) -> [f64; 20]
-    ensures { λ r. ⌜ r ≡ ratiosOf list ⌝ }
-{
-    let mut out = [0.0; 20];
-    let mut k = 0;
-    while k < 20 {
-        let year = list[k];
-        let value = year.value;
-        out[k] = ratio(value);
-        k += 1;
-    }
-    out
-}
-
 // The claim costs: f(j) of paid at place j - 1, and of year i's inflation the kind and the ratio at
 // place i - 1.
 #[no_mangle]
@@ -81,11 +50,17 @@ pub extern "C" fn pardesul_claim_costs(
     }
     let list = answer.costs.factors;
     *factors = list;
-    let inflations = answer.costs.inflations;
-    let list = kinds_of(inflations);
-    *kinds = list;
-    let list = ratios_of(inflations);
-    *ratios = list;
     *mu = answer.costs.mu;
+    let inflations = answer.costs.inflations;
+    *kinds = [0u8; 20];
+    *ratios = [0.0; 20];
+    let mut k = 0;
+    while k < 20 {
+        let year = inflations[k];
+        let value = year.value;
+        kinds[k] = kind(value);
+        ratios[k] = ratio(value);
+        k += 1;
+    }
     0
 }

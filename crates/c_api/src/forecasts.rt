@@ -21,14 +21,7 @@ pub extern "C" fn pardesul_forecast(
     ensures { λ r. ⌜ now (leftovers .exit) ≡ ifAccepted r (forecastAnswer m (now (file .entry)) method basis (length (now (out .entry))) .leftovers) (now (leftovers .entry)) ⌝ }
     ensures { λ r. ⌜ (r ≡ 0 → method ≡ 0 → basis ≡ 1 → NearReserves m (setOf m (now (file .entry)) .paid) (now (out .exit))) ⌝ }
 {
-    let answer = forecast::forecast(file, m, method, basis, out);
-    let refusal = answer.refusal;
-    if refusal != 0 {
-        return refusal;
-    }
-    let list = answer.leftovers;
-    *leftovers = list;
-    0
+    forecast::forecast_into(file, m, method, basis, leftovers, out)
 }
 
 // The calendar-year tally with one cell added.

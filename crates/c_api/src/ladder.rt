@@ -21,22 +21,7 @@ pub extern "C" fn pardesul_shares(
     ensures { λ r. ⌜ now (g .exit) ≡ ifAccepted r (sharesAnswer m (now (file .entry)) .g) (now (g .entry)) ⌝ }
     ensures { λ r. ⌜ now (u .exit) ≡ ifAccepted r (sharesAnswer m (now (file .entry)) .u) (now (u .entry)) ⌝ }
 {
-    let answer = chain_ladder::shares(file, m);
-    let refusal = answer.refusal;
-    if refusal != 0 {
-        return refusal;
-    }
-    let list = answer.b;
-    *b = list;
-    let list = answer.n;
-    *n = list;
-    let list = answer.q;
-    *q = list;
-    let list = answer.g;
-    *g = list;
-    let list = answer.u;
-    *u = list;
-    0
+    chain_ladder::shares_into(file, m, b, n, q, g, u)
 }
 
 // The delays, p(l) at place l.
@@ -45,12 +30,5 @@ pub extern "C" fn pardesul_delays(file: &[u8], m: usize, p: &mut [i64; 20]) -> u
     ensures { λ r. ⌜ r ≡ delaysAnswer m (now (file .entry)) .refusal ⌝ }
     ensures { λ r. ⌜ now (p .exit) ≡ ifAccepted r (delaysAnswer m (now (file .entry)) .p) (now (p .entry)) ⌝ }
 {
-    let answer = delays::delays(file, m);
-    let refusal = answer.refusal;
-    if refusal != 0 {
-        return refusal;
-    }
-    let list = answer.p;
-    *p = list;
-    0
+    delays::delays_into(file, m, p)
 }

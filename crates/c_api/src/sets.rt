@@ -20,33 +20,30 @@ pub extern "C" fn pardesul_read_set(
     ensures { λ r. ⌜ now (paid .exit) ≡ ifAccepted r (readAnswer m (now (file .entry)) .set .paid) (now (paid .entry)) ⌝ }
     ensures { λ r. ⌜ now (incurred .exit) ≡ ifAccepted r (readAnswer m (now (file .entry)) .set .incurred) (now (incurred .entry)) ⌝ }
 {
-    let answer = triangles::read_set(file, m);
-    let refusal = answer.refusal;
+    let mut set = [0i64; 1200];
+    let refusal = triangles::read_cells(file, m, &mut set);
     if refusal != 0 {
         return refusal;
     }
-    let cells = answer.set.counts;
-    *counts = cells;
-    let cells = answer.set.paid;
-    *paid = cells;
-    let cells = answer.set.incurred;
-    *incurred = cells;
-    *has_incurred = answer.set.has_incurred as u8;
+    triangles::copy_kind(&set, 0, counts);
+    triangles::copy_kind(&set, 1, paid);
+    triangles::copy_kind(&set, 2, incurred);
+    *has_incurred = triangles::has_incurred(file, m) as u8;
     0
 }
 
 // The writer: the set's records go to the front of the output, in an order of its own.
 #[no_mangle]
-pub extern "C" fn pardesul_write_set(
+pub extern "C" fn pardesul_write_set<'a>(
     m: usize,
     has_incurred: bool,
-    counts: &[i64; 400],
-    paid: &[i64; 400],
-    incurred: &[i64; 400],
+    counts: &'a [i64; 400],
+    paid: &'a [i64; 400],
+    incurred: &'a [i64; 400],
     out: &mut [u8],
 ) -> u64
     ensures { λ r.
         ⌜ Wrote m «has_incurred» (now (counts .entry)) (now (paid .entry)) (now (incurred .entry)) (now (out .entry)) (now (out .exit)) r ⌝ }
 {
-    triangles::write_set(m, has_incurred, *counts, *paid, *incurred, out)
+    triangles::write_lent(m, has_incurred, counts, paid, incurred, out)
 }

@@ -1,5 +1,6 @@
 -- Laws of document 01's "Calendar years and the program".
 pub mod YearSums
+pub mod YearRows
 pub mod Printable
 pub mod Written
 pub mod Digits

@@ -15,7 +15,7 @@ use Rattle.model.specs.Lists.{at}
 use Rattle.model.specs.ListsLaws.{getD-tabulate}
 use Rattle.model.specs.Calendar.{fits64, calendarYear, tallyOf}
 use Rattle.model.specs.declared.Tally.{Tally}
-use Rattle.calendar.specs.YearSums.{cells, rbnsAt, ibnrAt, yearSum, years, Small, few-cells, small-rbns, small-ibnr, below-fits, year-sum-small, none-lost}
+use Rattle.calendar.specs.YearSums.{cells, entryAt, yearSum, years, Small, few-cells, small-entry, below-fits, year-sum-small, none-lost}
 
 -- every number in the text of a tally of m is a signed 64-bit number, and so is each running total
 pub record Printable (m : ℕ) (t : Tally) : Type 0 where
@@ -70,10 +70,10 @@ alone-fits x n h a = below-fits x (omega arith)
 pub small-printable : (m : ℕ) (out : List ℤ) → m ≤ 20 → Small m out → Printable m (tallyOf m out)
 small-printable m out h small =
     let few = few-cells m h in
-    let r = small-rbns m out small in
-    let s = small-ibnr m out small in
-    let f = rbnsAt out in
-    let g = ibnrAt out in
+    let r = small-entry m out small 0 (omega arith) in
+    let s = small-entry m out small 1 (omega arith) in
+    let f = entryAt 0 out in
+    let g = entryAt 1 out in
     let n = cells m in
     let b = 2 * 10 ^ 15 in
     rw (none-lost m out h small)

@@ -17,7 +17,7 @@ use Rattle.triangles.specs.Order.{SameRecords}
 use Rattle.triangles.specs.CallsOrder.{forecast-refusal-order, output-order}
 use Rattle.calendar.specs.Runs.{run-within}
 use Rattle.calendar.specs.Cut.{cut-same}
-use Rattle.calendar.specs.Written.{Written, written-whole}
+use Rattle.calendar.specs.Written.{Written, written-length, written-whole}
 
 pub text-refused : (m : ℕ) (f : List ℕ) (method basis n : ℕ) → (n ≡ 0 → ⊥) → forecastRefusal m f method basis 1560 ≡ n → fileText m f method basis ≡ refusalText n
 unfolding fileText
@@ -87,14 +87,20 @@ module _ (s : List ℕ) where
     unfolding respondAnswer respondOutput
     too-short h = (rw (lt-leb (length (closingText s)) (length before) h), rw (lt-leb (length (closingText s)) (length before) h))
 
-    -- the text goes from the front of a longer list to the front of the output
-    pub copied : (filled whole after : List ℕ) (n r : ℕ) → whole ≡ overlay filled 0 (closingText s) → n ≡ length (closingText s) → n ≤ length before
+    -- the text was written, so there is room for it
+    pub answered : (after : List ℕ) (r : ℕ) → length after ≡ length before → (after ≡ overlay before 0 (closingText s)) × (r ≡ length (closingText s))
+        → (r ≡ respondAnswer s before) × (after ≡ respondOutput s before)
+    answered after r e w =
+        let l = long-enough (omega (arith, written-room before (closingText s), ap length (w .0))) in
+        (w .1 ∙ sym (l .0), w .0 ∙ sym (l .1))
+
+    -- it goes from the front of a longer list to the front of the output
+    pub copied : (filled whole after : List ℕ) (n r : ℕ) → whole ≡ overlay filled 0 (closingText s) → n ≡ length (closingText s)
         → Written before 0 (take (n - 0) (drop 0 whole)) after r → (r ≡ respondAnswer s before) × (after ≡ respondOutput s before)
-    copied filled whole after n r w e h d =
+    copied filled whole after n r w e d =
         let t : take (n - 0) (drop 0 whole) ≡ closingText s = ap (λ (k : ℕ). take k whole) (sub-zero n) ∙ ap₂ take e w ∙ written-front filled (closingText s) in
-        let z = written-whole (subst (λ (xs : List ℕ). Written before 0 xs after r) t d) in
-        let l = long-enough (subst (λ (k : ℕ). k ≤ length before) e h) in
-        (z .1 ∙ sym (l .0), z .0 ∙ sym (l .1))
+        let z = subst (λ (xs : List ℕ). Written before 0 xs after r) t d in
+        answered after r (written-length z) (written-whole z)
 
 -- ---- n bytes that were read into a buffer
 

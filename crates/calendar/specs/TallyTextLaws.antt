@@ -10,12 +10,13 @@ use native.Mathlib.Numerals.{add-one}
 use native.Mathlib.Omega.{arith}
 use lib.IntN.{ℤ, _+ℤ_}
 use lib.ListN.{length, length-append}
-use Rattle.integers.specs.Sums.{sum}
+use Rattle.integers.specs.Sums.{sum, sum-cong}
 use Rattle.model.specs.Lists.{at}
 use Rattle.model.specs.Calendar.{fits64, digits, amount, line, lines, tallyText, refusalText}
 use Rattle.model.specs.declared.Tally.{Tally}
 use Rattle.calendar.specs.Digits.{digits-length}
 use Rattle.calendar.specs.Amount.{amount-length}
+use Rattle.calendar.specs.YearRows.{Spaced}
 use Rattle.calendar.specs.Printable.{Printable}
 
 -- a space and an amount
@@ -51,6 +52,13 @@ pub tally-text-is : (m : ℕ) (t : Tally) → tallyText m t ≡ lines t (2 * m -
 unfolding tallyText
 tally-text-is m t = rw (line-is (84 ∷ []) (sum (2 * m - 2) (at (t .rbns))) (sum (2 * m - 2) (at (t .ibnr))))
 
+-- its sums are those of entries one place apart
+pub total-is : (n : ℕ) (xs : List ℤ) → sum n (λ k. at xs (0 + 1 * k)) ≡ sum n (at xs)
+total-is n xs = sum-cong n (λ k l. let e : 0 + 1 * k ≡ k = omega arith in ap (at xs) e)
+
+pub total-spaced : (n : ℕ) (xs : List ℤ) → n ≤ length xs → ((k : ℕ) → k ≤ n → fits64 (sum k (at xs)) ≡ true) → Spaced 0 1 n xs
+total-spaced n xs h f = record { places = λ k l. omega arith; fits = λ k l. rw (total-is k xs) (f k l) }
+
 -- ---- their lengths
 
 pub field-size : (z : ℤ) → length (field z) ≡ 1 + length (amount z)
@@ -78,7 +86,7 @@ pub refusal-size : (n : ℕ) → length (refusalText n) ≡ 9 + length (digits n
 unfolding refusalText
 refusal-size n = simp length-append (omega arith)
 
-pub refusal-short : (n : ℕ) → n < 10 ^ 20 → length (refusalText n) ≤ 4096
+pub refusal-short : (n : ℕ) → n < 10 ^ 20 → length (refusalText n) ≤ 2573
 refusal-short n h = omega (arith, refusal-size n, digits-length 19 n h)
 
 -- ---- at most 2,573 bytes: 38 lines of 66 and one of 65

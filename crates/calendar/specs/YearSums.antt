@@ -4,7 +4,7 @@ use mathlib.Core.Path.{_≡_, refl, sym, _∙_, ap}
 use mathlib.Core.Bool.{Bool, true, false, cond}
 use mathlib.Core.List.{List}
 use Prim.Native.Nat.{ℕ, zero, suc, _+_, _-_, _*_, _^_, _≤_, _<_}
-use native.Mathlib.Nat.{mul-assoc, mul-le-mul}
+use native.Mathlib.Nat.{add-zero, mul-assoc, mul-le-mul}
 use native.Mathlib.Omega.{arith}
 use lib.Dec.{leb, eqb}
 use lib.IntN.{ℤ, pos, negsuc, natAbs, _+ℤ_, +ℤ-idr}
@@ -24,12 +24,9 @@ use Rattle.model.specs.declared.Tally.{Tally}
 abbrev pub cells : ℕ → ℕ
 cells m = m * (2 * m - 1)
 
--- the RBNS entry of the n-th cell, and its IBNR entry
-abbrev pub rbnsAt : List ℤ → ℕ → ℤ
-rbnsAt out n = at out (2 * n)
-
-abbrev pub ibnrAt : List ℤ → ℕ → ℤ
-ibnrAt out n = at out (2 * n + 1)
+-- the RBNS entry (kind 0) of the n-th cell, or its IBNR entry (kind 1)
+abbrev pub entryAt : ℕ → List ℤ → ℕ → ℤ
+entryAt kind out n = at out (2 * n + kind)
 
 -- the sum of f over those of the first n cells that lie in calendar year t
 unfoldable pub yearSum : ℕ → (ℕ → ℤ) → ℕ → ℕ → ℤ
@@ -39,9 +36,13 @@ yearSum m f n t = sum n (λ c. cond (eqb (calendarYear m c) t) (f c) (pos 0))
 abbrev pub years : ℕ → (ℕ → ℤ) → ℕ → List ℤ
 years m f n = tabulate 38 (λ k. yearSum m f n (suc k))
 
+-- the tally of two lists
+abbrev pub tallyIn : List ℤ → List ℤ → Tally
+tallyIn rbns ibnr = record { rbns = rbns; ibnr = ibnr }
+
 -- the plain sums of the first n cells
 abbrev pub plainSums : ℕ → List ℤ → ℕ → Tally
-plainSums m out n = record { rbns = years m (rbnsAt out) n; ibnr = years m (ibnrAt out) n }
+plainSums m out n = tallyIn (years m (entryAt 0 out) n) (years m (entryAt 1 out) n)
 
 -- every entry of the output is at most 2 × 10^15 (a cell of an accepted set is at most 1.6 × 10^15
 -- + 1)
@@ -54,11 +55,8 @@ pub few-cells : (m : ℕ) → m ≤ 20 → cells m ≤ 780
 few-cells m h = let w : 2 * m - 1 ≤ 39 = omega arith in mul-le-mul h w
 
 module _ (m : ℕ) (out : List ℤ) (small : Small m out) where
-  pub small-rbns : (c : ℕ) → c < cells m → natAbs (rbnsAt out c) ≤ 2 * 10 ^ 15
-  small-rbns c h = small (2 * c) (omega (arith, mul-assoc 2 m (2 * m - 1)))
-
-  pub small-ibnr : (c : ℕ) → c < cells m → natAbs (ibnrAt out c) ≤ 2 * 10 ^ 15
-  small-ibnr c h = small (2 * c + 1) (omega (arith, mul-assoc 2 m (2 * m - 1)))
+  pub small-entry : (kind : ℕ) → kind ≤ 1 → (c : ℕ) → c < cells m → natAbs (entryAt kind out c) ≤ 2 * 10 ^ 15
+  small-entry kind k c h = small (2 * c + kind) (omega (arith, mul-assoc 2 m (2 * m - 1)))
 
 pub below-fits : (z : ℤ) → natAbs z < 2 ^ 63 → fits64 z ≡ true
 unfolding fits64
@@ -117,7 +115,7 @@ module _ (m : ℕ) (out : List ℤ) (few : m ≤ 20) (small : Small m out) where
       (omega (arith, natAbs-+ℤ (yearSum m f n t) (f n), year-sum-small m f n (2 * 10 ^ 15) t (λ c k. h c (omega arith)), h n l, few-cells m few)))
 
   add-cell : (n : ℕ) → n < cells m → (lo hi : Bool) → leb 1 (calendarYear m n) ≡ lo → leb (calendarYear m n) 38 ≡ hi
-      → tallyAdd (plainSums m out n) (calendarYear m n) (rbnsAt out n) (ibnrAt out n) ≡ plainSums m out (suc n)
+      → tallyAdd (plainSums m out n) (calendarYear m n) (entryAt 0 out n) (entryAt 1 out n) ≡ plainSums m out (suc n)
   unfolding tallyAdd
   add-cell n l true true e d =
       let lo = leb-true 1 _ e in
@@ -125,22 +123,25 @@ module _ (m : ℕ) (out : List ℤ) (few : m ≤ 20) (small : Small m out) where
       rw (
         e,
         d,
-        more-fits (rbnsAt out) (small-rbns m out small) n l lo hi,
-        more-fits (ibnrAt out) (small-ibnr m out small) n l lo hi,
-        within m (rbnsAt out) n lo hi,
-        within m (ibnrAt out) n lo hi,
+        more-fits (entryAt 0 out) (small-entry m out small 0 (omega arith)) n l lo hi,
+        more-fits (entryAt 1 out) (small-entry m out small 1 (omega arith)) n l lo hi,
+        within m (entryAt 0 out) n lo hi,
+        within m (entryAt 1 out) n lo hi,
       )
   add-cell n l true false e d =
       let o : (k : ℕ) → k < 38 → calendarYear m n ≡ suc k → ⊥ = λ k h q. omega (arith, leb-false (calendarYear m n) 38 d) in
-      rw (e, d, outside m (rbnsAt out) n o, outside m (ibnrAt out) n o)
+      rw (e, d, outside m (entryAt 0 out) n o, outside m (entryAt 1 out) n o)
   add-cell n l false hi e d =
       let o : (k : ℕ) → k < 38 → calendarYear m n ≡ suc k → ⊥ = λ k h q. omega (arith, leb-false 1 (calendarYear m n) e) in
-      rw (e, outside m (rbnsAt out) n o, outside m (ibnrAt out) n o)
+      rw (e, outside m (entryAt 0 out) n o, outside m (entryAt 1 out) n o)
 
   tally-to : (n : ℕ) → n ≤ cells m → tallyTo m out n ≡ plainSums m out n
   unfolding tallyTo yearSum sum tabulate
   tally-to zero h = refl
-  tally-to (suc n) h = rw (tally-to n (omega arith)) (add-cell n h (leb 1 (calendarYear m n)) (leb (calendarYear m n) 38) refl refl)
+  tally-to (suc n) h =
+      rw (tally-to n (omega arith))
+      (ap (λ (p : ℕ). tallyAdd (plainSums m out n) (calendarYear m n) (at out p) (entryAt 1 out n)) (sym (add-zero (2 * n)))
+      ∙ add-cell n h (leb 1 (calendarYear m n)) (leb (calendarYear m n) 38) refl refl)
 
   -- no cell is turned away
   pub none-lost : tallyOf m out ≡ plainSums m out (cells m)
@@ -148,8 +149,8 @@ module _ (m : ℕ) (out : List ℤ) (few : m ≤ 20) (small : Small m out) where
   none-lost = tally-to (cells m) (omega arith)
 
   -- each year's sums are the sums of its cells' entries
-  pub rbns-of-year : (t : ℕ) → 1 ≤ t → t ≤ 38 → at (tallyOf m out .rbns) (t - 1) ≡ yearSum m (rbnsAt out) (cells m) t
-  rbns-of-year t h l = rw none-lost (of-year m (rbnsAt out) (cells m) t h l)
+  pub rbns-of-year : (t : ℕ) → 1 ≤ t → t ≤ 38 → at (tallyOf m out .rbns) (t - 1) ≡ yearSum m (entryAt 0 out) (cells m) t
+  rbns-of-year t h l = rw none-lost (of-year m (entryAt 0 out) (cells m) t h l)
 
-  pub ibnr-of-year : (t : ℕ) → 1 ≤ t → t ≤ 38 → at (tallyOf m out .ibnr) (t - 1) ≡ yearSum m (ibnrAt out) (cells m) t
-  ibnr-of-year t h l = rw none-lost (of-year m (ibnrAt out) (cells m) t h l)
+  pub ibnr-of-year : (t : ℕ) → 1 ≤ t → t ≤ 38 → at (tallyOf m out .ibnr) (t - 1) ≡ yearSum m (entryAt 1 out) (cells m) t
+  ibnr-of-year t h l = rw none-lost (of-year m (entryAt 1 out) (cells m) t h l)

@@ -1,18 +1,18 @@
 // The text that `closing` prints: of a tally, or of a refusal.
+use crate::tally::spaced_sum;
 use crate::text::put;
 use crate::text::write_amount;
 use crate::text::write_digits;
-use model::Tally;
 ghost use mathlib.Core.Path.{_≡_};
 ghost use mathlib.Core.Bool.{true};
 ghost use Prim.Native.Nat.{ℕ, _+_, _≤_, _<_};
 ghost use lib.IntN.{_+ℤ_};
 ghost use lib.ListN.{length};
-ghost use Rattle.integers.specs.Sums.{sum};
 ghost use Rattle.model.specs.Lists.{at};
 ghost use Rattle.model.specs.Overlay.{overlay};
 ghost use Rattle.model.specs.Calendar.{fits64, lines, tallyText, refusalText};
 ghost use Rattle.calendar.specs.Written.{Written};
+ghost use Rattle.calendar.specs.YearSums.{tallyIn};
 ghost use Rattle.calendar.specs.Printable.{Printable};
 ghost use Rattle.calendar.specs.TallyTextLaws.{field, sums};
 
@@ -39,53 +39,41 @@ fn write_sums(out: &mut [u8], at: usize, rbns: i64, ibnr: i64) -> usize
 }
 
 // Writes the lines of years 1 to n at the start of the output.
-fn write_lines(out: &mut [u8], n: usize, t: Tally) -> usize
+fn write_lines<'a>(out: &mut [u8], n: usize, rbns: &'a [i64; 38], ibnr: &'a [i64; 38]) -> usize
     requires { ⌜ n ≤ 38 ⌝ }
-    requires { ⌜ ((k : ℕ) → k < n → fits64 (at (t .rbns) k +ℤ at (t .ibnr) k) ≡ true) ⌝ }
-    requires { ⌜ length (lines t n) ≤ length (now out) ⌝ }
-    ensures { λ r. ⌜ Written (now (out .entry)) 0 (lines t n) (now (out .exit)) r ⌝ }
+    requires { ⌜ ((k : ℕ) → k < n → fits64 (at (now rbns) k +ℤ at (now ibnr) k) ≡ true) ⌝ }
+    requires { ⌜ length (lines (tallyIn (now rbns) (now ibnr)) n) ≤ length (now out) ⌝ }
+    ensures { λ r. ⌜ Written (now (out .entry)) 0 (lines (tallyIn (now (rbns .entry)) (now (ibnr .entry))) n) (now (out .exit)) r ⌝ }
 {
     let mut end = 0;
     let mut k = 0;
     while k < n {
-        let rbns = t.rbns[k];
-        let ibnr = t.ibnr[k];
+        let x = rbns[k];
+        let y = ibnr[k];
         let year = k + 1;
         let next = write_digits(out, end, year as u64);
-        end = write_sums(out, next, rbns, ibnr);
+        end = write_sums(out, next, x, y);
         k = year;
     }
     end
 }
 
-// The total of the first n years.
-fn total(xs: [i64; 38], n: usize) -> i64
-    requires { ⌜ n ≤ 38 ⌝ }
-    requires { ⌜ ((k : ℕ) → k ≤ n → fits64 (sum k (at xs)) ≡ true) ⌝ }
-    ensures { λ r. ⌜ r ≡ sum n (at xs) ⌝ }
-{
-    let mut s = 0i64;
-    let mut k = 0;
-    while k < n {
-        s = s + xs[k];
-        k += 1;
-    }
-    s
-}
-
 // Writes the text of a tally at the start of the output, and hands back its length.
-pub fn write_tally_text(out: &mut [u8], m: usize, t: Tally) -> usize
+pub fn write_tally_text<'a>(
+    out: &mut [u8],
+    m: usize,
+    rbns: &'a [i64; 38],
+    ibnr: &'a [i64; 38],
+) -> usize
     requires { ⌜ (2 ≤ m) × (m ≤ 20) ⌝ }
-    requires { ⌜ Printable m t ⌝ }
-    requires { ⌜ length (tallyText m t) ≤ length (now out) ⌝ }
-    ensures { λ r. ⌜ (now (out .exit) ≡ overlay (now (out .entry)) 0 (tallyText m t)) × (r ≡ length (tallyText m t)) ⌝ }
+    requires { ⌜ Printable m (tallyIn (now rbns) (now ibnr)) ⌝ }
+    requires { ⌜ length (tallyText m (tallyIn (now rbns) (now ibnr))) ≤ length (now out) ⌝ }
+    ensures { λ r. ⌜ (now (out .exit) ≡ overlay (now (out .entry)) 0 (tallyText m (tallyIn (now (rbns .entry)) (now (ibnr .entry))))) × (r ≡ length (tallyText m (tallyIn (now (rbns .entry)) (now (ibnr .entry))))) ⌝ }
 {
     let years = 2 * m - 2;
-    let end = write_lines(out, years, t);
-    let rbns = t.rbns;
-    let ibnr = t.ibnr;
-    let first = total(rbns, years);
-    let second = total(ibnr, years);
+    let end = write_lines(out, years, rbns, ibnr);
+    let first = spaced_sum(rbns, 0, 1, years);
+    let second = spaced_sum(ibnr, 0, 1, years);
     let next = put(out, end, b'T');
     write_sums(out, next, first, second)
 }

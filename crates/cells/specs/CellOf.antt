@@ -1,5 +1,6 @@
 -- The two numbers of a cell as one value, and the entries of years.
-use Prim.Native.Nat.{ℕ, _+_, _-_, _*_, _/_, _%_}
+use Prim.Native.Nat.{ℕ, _+_, _-_, _*_, _/_, _%_, _≤_}
+use mathlib.Core.Path.{_≡_}
 use mathlib.Core.Bool.{cond}
 use mathlib.Core.List.{List}
 use lib.Dec.{leb, eqb}
@@ -8,10 +9,23 @@ use Rattle.model.specs.Lists.{at, tabulate}
 use Rattle.model.specs.Rounding.{S, r}
 use Rattle.model.specs.Cells.{pairs, rbnsFrom, yearOf, delayOf}
 use Rattle.cells.specs.declared.cell.Cell.{Cell}
+use Rattle.cells.specs.Weights.{Weights, Delays, Summed}
 
 -- the sums of b(k) × p(l) over the reporting delays k from c on, that with k + l = j at place j
 unfoldable pub sumsFrom : ℕ → ℕ → List ℤ → List ℤ → List ℤ
 sumsFrom m c b p = tabulate 39 (λ j. pairs m j (leb c) b p)
+
+-- what the cells of year i ask of the weights s, the delays p and the sums u over the unreported
+-- claims; under basis 1 s holds the shares, and `whole` the sums over all claims
+pub record Year (m i basis : ℕ) (whole u s p : List ℤ) : Type 0 where
+  pub first : 1 ≤ i
+  pub last : i ≤ m
+  pub few : m ≤ 20
+  pub weights : Weights s
+  pub delays : Delays p
+  pub summed : Summed u
+  pub whole-is : basis ≡ 1 → whole ≡ sumsFrom m 0 s p
+  pub later-is : basis ≡ 1 → u ≡ sumsFrom m (m - i + 1) s p
 
 -- RBNS and IBNR of cell (i,j), for the row base v, the weights s, the delays p and the sums u over
 -- the unreported claims; a known cell is 0

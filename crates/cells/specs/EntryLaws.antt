@@ -1,24 +1,44 @@
--- Laws of the entries of a year: none, and those of one delay more. Assumes nothing.
-use mathlib.Core.Path.{_≡_, refl, sym, _∙_, ap}
+-- Laws of the entries of a year: those of the known cells, and those of one delay more. Assumes
+-- nothing.
+use mathlib.Core.Path.{_≡_, sym, _∙_, ap}
 use mathlib.Core.Bool.{cond}
-use mathlib.Core.List.{List, [], _∷_, _++_}
-use Prim.Native.Nat.{ℕ, _+_, _*_, _/_, _%_, _≤_}
+use mathlib.Core.List.{List, [], _∷_, _++_, append-assoc}
+use Prim.Native.Nat.{ℕ, _+_, _-_, _*_, _/_, _%_, _≤_}
 use native.Mathlib.Omega.{arith}
+use borrow.Author.Tests.{le-leb}
 use lib.Dec.{eqb}
-use lib.IntN.{ℤ}
-use lib.ListN.{length, set}
+use lib.IntN.{ℤ, pos}
+use lib.ListN.{length, take, drop, set, length-append}
+use lib.Seq.{take-at, drop-append-add, drop-drop, length-take-le}
 use Rattle.model.specs.Overlay.{overlay, overlay-store}
 use Rattle.model.specs.Lists.{tabulate}
-use Rattle.model.specs.ListsLaws.{tabulate-last, length-tabulate}
+use Rattle.model.specs.ListsLaws.{tabulate-ext, tabulate-last, length-tabulate}
+use Rattle.model.specs.Tests.{by-test}
 use Rattle.cells.specs.CellOf.{cellOf, firstEntries}
+
+-- a list written over the first part of its own place
+pub overlay-over : (d : List ℤ) (a : ℕ) (s t : List ℤ) → a ≤ length d → length s ≤ length t → overlay (overlay d a s) a t ≡ overlay d a t
+unfolding overlay
+overlay-over d a s t h l =
+    let P = take a d ++ s in
+    let X = drop (a + length s) d in
+    let n : length P ≡ a + length s = length-append (take a d) s ∙ rw (length-take-le a d h) in
+    let front : take a (P ++ X) ≡ take a d = rw (append-assoc (take a d) s X) (take-at (take a d) (s ++ X) a (length-take-le a d h)) in
+    let k : a + length t ≡ length P + (length t - length s) = omega arith in
+    let e : a + length s + (length t - length s) ≡ a + length t = omega arith in
+    let tail : drop (a + length t) (P ++ X) ≡ drop (a + length t) d =
+    ap (λ (i : ℕ). drop i (P ++ X)) k ∙ drop-append-add P X (length t - length s) ∙ drop-drop (length t - length s) (a + length s) d ∙ ap (λ (i : ℕ). drop i d) e in
+    rw (front, tail)
 
 module _ (m : ℕ) (v : ℤ) (s p u : List ℤ) (i : ℕ) where
   abbrev f : ℕ → ℤ
   f e = cond (eqb (e % 2) 0) (cellOf m v s p u i (e / 2) .rbns) (cellOf m v s p u i (e / 2) .ibnr)
 
-  pub no-entries : firstEntries m v s p u i 0 ≡ []
-  unfolding firstEntries tabulate
-  no-entries = refl
+  -- the known cells
+  pub known-entries : 1 ≤ i → tabulate (2 * (m + 1 - i)) (λ _. pos 0) ≡ firstEntries m v s p u i (2 * (m + 1 - i))
+  unfolding firstEntries cellOf
+  known-entries h =
+      tabulate-ext (2 * (m + 1 - i)) (λ _. pos 0) f (λ e l. rw (le-leb (i + e / 2) m (omega arith)) (by-test (eqb (e % 2) 0) (λ t. rw t) (λ t. rw t)))
 
   pub length-entries : (n : ℕ) → length (firstEntries m v s p u i n) ≡ n
   unfolding firstEntries

@@ -8,10 +8,10 @@ use native.Mathlib.Nat.{mul-le-mul-left, mul-comm}
 use native.Mathlib.Omega.{arith}
 use borrow.Author.Tests.{eqb-true, eqb-false, le-leb, lt-leb, le-ltb, lt-ltb, leb-true, leb-false, ltb-true}
 use lib.Dec.{leb, ltb, eqb}
-use lib.IntN.{ℤ, pos, natAbs, _+ℤ_, _*ℤ_}
+use lib.IntN.{ℤ, pos, natAbs, _+ℤ_, _-ℤ_, _*ℤ_, +ℤ-idl, +ℤ-idr}
 use Rattle.integers.specs.Linear.{lin₀, stmt}
 use Rattle.integers.specs.Order.{natAbs-*ℤ, natAbs-mono, natAbs-plus, ≤ℤ-trans}
-use Rattle.integers.specs.Sums.{sum, sum-suc, sum-cong, sum-nothing, sum-part, sum-nonneg, sum-dominated}
+use Rattle.integers.specs.Sums.{sum, sum-suc, sum-cong, sum-nothing, sum-part, sum-nonneg, sum-dominated, sum-+ℤ}
 use Rattle.model.specs.Lists.{at}
 use Rattle.model.specs.ListsLaws.{and-right}
 use Rattle.model.specs.Cells.{pairs}
@@ -114,3 +114,18 @@ module _ (m j : ℕ) (x p : List ℤ) where
 
   pub none-left : pairs m j (leb m) x p ≡ pos 0
   none-left = pairs-terms m j (leb m) x p ∙ sum-nothing m (λ k l. term-no m j (leb m) x p k (lt-leb m k l))
+
+  -- the delays up to n are all delays but the later ones
+  up-or-later : (n k : ℕ) → from 0 k ≡ term m j (λ k. leb k n) x p k +ℤ from (n + 1) k
+  unfolding term
+  up-or-later n k =
+      by-test (leb k n) (λ e. let h = leb-true k n e in rw (le-leb 0 k (omega arith), e, lt-leb (n + 1) k (omega arith)) (sym (+ℤ-idr _)))
+      (λ e. let h = leb-false k n e in rw (le-leb 0 k (omega arith), e, le-leb (n + 1) k (omega arith)) (sym (+ℤ-idl _)))
+
+  pub less-later : (n : ℕ) → pairs m j (λ k. leb k n) x p ≡ pairs m j (leb 0) x p -ℤ pairs m j (leb (n + 1)) x p
+  less-later n =
+      let a = sum m (term m j (λ k. leb k n) x p) in
+      let b = sum m (from (n + 1)) in
+      let e : sum m (from 0) ≡ a +ℤ b = sum-cong m (λ k l. up-or-later n k) ∙ sum-+ℤ m (term m j (λ k. leb k n) x p) (from (n + 1)) in
+      rw (pairs-terms m j (λ k. leb k n) x p, pairs-terms m j (leb 0) x p, pairs-terms m j (leb (n + 1)) x p, e)
+      (lin₀ (a ∷ b ∷ []) (search stmt) (omega arith))

@@ -4,18 +4,18 @@ use mathlib.Core.Path.{_≡_, refl, sym, _∙_, ap}
 use mathlib.Core.Bool.{Bool, true, false, _&&_, cond, and-false}
 use mathlib.Core.Logic.{_⊎_, ⊎-elim, inl, inr}
 use mathlib.Core.List.{List}
-use Prim.Native.Nat.{ℕ, suc, _+_, _-_, _≤_, _<_}
+use Prim.Native.Nat.{ℕ, suc, _+_, _-_, _*_, _^_, _≤_, _<_}
 use native.Mathlib.Omega.{arith}
 use borrow.Author.Tests.{le-leb, lt-leb, le-ltb, lt-ltb, leb-true, leb-false, ltb-true, ltb-false}
 use lib.Dec.{leb, ltb}
-use lib.IntN.{ℤ, pos, _+ℤ_, _*ℤ_}
+use lib.IntN.{ℤ, pos, natAbs, _+ℤ_, _-ℤ_, _*ℤ_}
 use lib.ListN.{set, replicate}
 use Rattle.model.specs.Lists.{at, tabulate, listed}
 use Rattle.model.specs.ListsLaws.{getD-tabulate, tabulate-ext, set-tabulate, listed-none}
 use Rattle.model.specs.Cells.{pairs}
 use Rattle.cells.specs.Weights.{Weights, Delays, Summed}
-use Rattle.cells.specs.CellOf.{sumsFrom}
-use Rattle.cells.specs.PairLaws.{one-more, no-more, none-left, pairs-small}
+use Rattle.cells.specs.CellOf.{Year, sumsFrom}
+use Rattle.cells.specs.PairLaws.{one-more, no-more, none-left, less-later, pairs-small}
 
 -- no reporting delay is left
 pub no-sums : (m : ℕ) (b p : List ℤ) → replicate 39 (pos 0) ≡ sumsFrom m m b p
@@ -24,9 +24,22 @@ no-sums m b p =
     listed-none 39 (λ _. pos 0) (pos 0)
     ∙ tabulate-ext 39 (λ k. cond (ltb k 0) (pos 0) (pos 0)) (λ j. pairs m j (leb m) b p) (λ j h. rw (le-ltb j 0 (omega arith)) (sym (none-left m j b p)))
 
-pub sums-fit : (m c : ℕ) (b p : List ℤ) → m ≤ 20 → Weights b → Delays p → Summed (sumsFrom m c b p)
+pub sum-at : (m c : ℕ) (b p : List ℤ) (j : ℕ) → j < 39 → at (sumsFrom m c b p) j ≡ pairs m j (leb c) b p
 unfolding sumsFrom
-sums-fit m c b p few w d j h = rw (getD-tabulate 39 (λ j. pairs m j (leb c) b p) j (pos 0) h) (pairs-small m j (leb c) b p w d few)
+sum-at m c b p j h = getD-tabulate 39 (λ j. pairs m j (leb c) b p) j (pos 0) h
+
+pub sums-fit : (m c : ℕ) (b p : List ℤ) → m ≤ 20 → Weights b → Delays p → Summed (sumsFrom m c b p)
+sums-fit m c b p few w d j h = rw (sum-at m c b p j h) (pairs-small m j (leb c) b p w d few)
+
+-- the reported claims of a year
+module _ {m i basis : ℕ} {whole u s p : List ℤ} (year : Year m i basis whole u s p) (j : ℕ) where
+  pub reported-small : natAbs (pairs m j (λ k. leb k (m - i)) s p) ≤ 9 * 10 ^ 18
+  reported-small = pairs-small m j (λ k. leb k (m - i)) s p (year .weights) (year .delays) (year .few)
+
+  -- under basis 1
+  pub whole-less-later : basis ≡ 1 → j < 39 → at whole j -ℤ at u j ≡ pairs m j (λ k. leb k (m - i)) s p
+  whole-less-later b h =
+      rw (year .whole-is b, year .later-is b, sum-at m 0 s p j h, sum-at m (m - i + 1) s p j h) (sym (less-later m j s p (m - i)))
 
 module _ (m k : ℕ) (b p : List ℤ) where
   -- place j after the payment delays below l

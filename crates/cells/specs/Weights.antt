@@ -5,7 +5,7 @@ use mathlib.Core.Bool.{cond}
 use mathlib.Core.List.{List}
 use lib.Dec.{eqb}
 use lib.IntN.{ℤ, pos, natAbs, _*ℤ_}
-use Rattle.integers.specs.Parts.{_⩽_}
+use Rattle.integers.specs.Parts.{_⩽_, _⋖_}
 use Rattle.integers.specs.Sums.{sum}
 use Rattle.model.specs.Lists.{at, listed}
 use Rattle.model.specs.Records.{cell}
@@ -23,6 +23,16 @@ Delays p = (l : ℕ) → l < 20 → natAbs (at p l) ≤ 8 * 10 ^ 9
 -- sums that `scale_cell` takes
 abbrev pub Summed : List ℤ → Type 0
 Summed u = (j : ℕ) → j < 39 → natAbs (at u j) ≤ 9 * 10 ^ 18
+
+-- what the weights of year i ask of the counts t, the share g(m-i) and the row's sum c
+pub record Counted (m i : ℕ) (t : List ℤ) (g c : ℤ) : Type 0 where
+  pub first : 1 ≤ i
+  pub last : i ≤ m
+  pub few : m ≤ 20
+  pub share : natAbs g ≤ 10 ^ 9
+  pub some : pos 0 ⋖ c
+  pub row : natAbs c ≤ 10 ^ 18
+  pub counts : (k : ℕ) → k ≤ m - i → natAbs (cell t i k) ≤ 10 ^ 7
 
 -- s(k) by the actual counts, from the count share g(m-i) and the row's sum c (01, Cell forecasts)
 unfoldable pub actualWeight : List ℤ → ℕ → ℤ → ℤ → ℕ → ℤ

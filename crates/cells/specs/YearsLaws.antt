@@ -7,17 +7,18 @@ use Prim.Native.Nat.{ℕ, suc, _+_, _-_, _*_, _/_, _%_, _≤_, _<_}
 use native.Mathlib.Nat.{mod-lt, add-mul, one-mul, mul-assoc, mul-left-comm, mul-le-mul-right, div-lt-iff-lt-mul, zero-add}
 use native.Mathlib.Omega.{arith}
 use lib.Arith.{digits-div, digits-mod}
-use lib.Dec.{leb, eqb}
-use lib.IntN.{ℤ, pos, _*ℤ_}
+use lib.Dec.{eqb}
+use lib.IntN.{ℤ, _*ℤ_}
 use lib.ListN.{length}
 use Rattle.model.specs.Lists.{at, tabulate}
-use Rattle.model.specs.ListsLaws.{getD-tabulate, tabulate-append, tabulate-ext, length-tabulate}
-use Rattle.model.specs.Cells.{size, pairs, yearOf, delayOf, ibnrFrom, rbns, ibnr, entry, entries, outputFrom, sList}
+use Rattle.model.specs.ListsLaws.{tabulate-append, tabulate-ext, length-tabulate}
+use Rattle.model.specs.Cells.{size, yearOf, delayOf, ibnrFrom, rbns, ibnr, entry, entries, outputFrom, sList}
 use Rattle.model.specs.Rounding.{S, r}
 use Rattle.model.specs.Overlay.{overlay}
 use Rattle.model.specs.Shares.{bList}
 use Rattle.model.specs.RowBases.{rowBase}
 use Rattle.model.specs.declared.TriangleSet.{TriangleSet}
+use Rattle.cells.specs.SumsFromLaws.{sum-at}
 use Rattle.cells.specs.CellOf.{sumsFrom, cellOf, firstEntries, yearEntries, entryAt, yearsEntries}
 
 -- the entries of m years
@@ -75,22 +76,28 @@ module _ (m : ℕ) (some : 1 ≤ m) (v : List ℤ) (s : ℕ → List ℤ) (b p :
 
 -- the sums over the unreported claims of year i give its IBNR cells
 ibnr-is : (m i j : ℕ) (v : ℤ) (b p : List ℤ) → 1 ≤ i → i ≤ m → j < 39 → r (v *ℤ at (sumsFrom m (m - (i - 1)) b p) j) (S *ℤ S) ≡ ibnrFrom m v b p i j
-unfolding sumsFrom ibnrFrom
+unfolding ibnrFrom
 ibnr-is m i j v b p h l k =
     let e : m - (i - 1) ≡ suc (m - i) = omega arith in
-    rw (getD-tabulate 39 (λ j. pairs m j (leb (m - (i - 1))) b p) j (pos 0) k, e)
+    rw (sum-at m (m - (i - 1)) b p j k, e)
 
 -- the whole output of a set, from its row bases and weights
 module _ (m : ℕ) (some : 1 ≤ m) (few : m ≤ 20) (t : TriangleSet) (p v : List ℤ) (s : ℕ → List ℤ) (method basis : ℕ)
     (bases : (i : ℕ) → 1 ≤ i → i ≤ m → at v (i - 1) ≡ rowBase m t method i) (weights : (i : ℕ) → 1 ≤ i → i ≤ m → s i ≡ sList m t basis i) where
+  -- a cell as the model has it
+  pub cell-is : (i j : ℕ) → 1 ≤ i → i ≤ m → j < 39
+      → cellOf m (at v (i - 1)) (s i) p (sumsFrom m (m - (i - 1)) (bList m (t .counts)) p) i j ≡ record { rbns = rbns m t p method basis i j; ibnr = ibnr m t p method i j }
+  unfolding cellOf rbns ibnr
+  cell-is i j h l k = rw (bases i h l, weights i h l, ibnr-is m i j (rowBase m t method i) (bList m (t .counts)) p h l k)
+
   entry-is : (e : ℕ) → e < size m → entryAt m v s (bList m (t .counts)) p e ≡ entry m t p method basis e
-  unfolding entryAt entry rbns ibnr cellOf
+  unfolding entryAt entry
   entry-is e l =
       let w : 0 < 2 * m - 1 = omega arith in
       let a : e / 2 < m * (2 * m - 1) = half e (m * (2 * m - 1)) (rw (mul-assoc 2 m (2 * m - 1)) at l) in
       let d : e / 2 / (2 * m - 1) < m = div-lt-iff-lt-mul w .1 a in
       let j : delayOf m e < 39 = omega (arith, mod-lt (e / 2) w) in
-      rw (bases (yearOf m e) (omega arith) (omega arith), weights (yearOf m e) (omega arith) (omega arith), ibnr-is m (yearOf m e) (delayOf m e) (rowBase m t method (yearOf m e)) (bList m (t .counts)) p (omega arith) (omega arith) j)
+      rw (cell-is (yearOf m e) (delayOf m e) (omega arith) (omega arith) j)
     where
       half : (e n : ℕ) → e < 2 * n → e / 2 < n
       half e n h = omega arith

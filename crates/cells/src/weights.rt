@@ -1,45 +1,42 @@
 // The weights s(k) of the reported claims (01, Cell forecasts).
 
 ghost use mathlib.Core.Path.{_≡_};
-ghost use Prim.Native.Nat.{ℕ, _+_, _-_, _*_, _^_, _≤_};
-ghost use lib.IntN.{pos, natAbs};
-ghost use Rattle.integers.specs.Parts.{_⋖_};
-ghost use Rattle.model.specs.Lists.{listed};
-ghost use Rattle.model.specs.Records.{cell};
-ghost use Rattle.cells.specs.Weights.{actualWeight, weightsFrom};
+ghost use Prim.Native.Nat.{_+_, _-_};
+ghost use lib.IntN.{pos};
+ghost use Rattle.model.specs.Lists.{at, listed};
+ghost use Rattle.model.specs.Lent.{triangleIn};
+ghost use Rattle.cells.specs.Weights.{Counted, actualWeight};
+ghost use Rattle.cells.specs.Ready.{yearWeights};
 
-// The weights of year i by its actual counts: r(count(i,k) × g / latest) for k up to m - i.
-fn actual_weights(counts: &[i64; 400], m: usize, i: usize, g: i64, latest: i64) -> [i64; 20]
-    requires { ⌜ (1 ≤ i) × (i ≤ m) × (m ≤ 20) × (natAbs g ≤ 10 ^ 9) × (pos 0 ⋖ latest) × (natAbs latest ≤ 10 ^ 18) ⌝ }
-    requires { ⌜ ((k : ℕ) → k ≤ m - i → natAbs (cell (now counts) i k) ≤ 10 ^ 7) ⌝ }
-    ensures { λ s. ⌜ s ≡ listed 20 (m - i + 1) (actualWeight (now (counts .entry)) i g latest) (pos 0) ⌝ }
+// The weights of year i by its actual counts, into s: r(count(i,k) × g / latest) for k up to m - i.
+fn actual_weights(s: &mut [i64; 20], set: &[i64; 1200], m: usize, i: usize, g: i64, latest: i64)
+    requires { ⌜ Counted m i (triangleIn 0 (now set)) g latest ⌝ }
+    ensures { λ _. ⌜ now (s .exit) ≡ listed 20 (m - i + 1) (actualWeight (triangleIn 0 (now (set .entry))) i g latest) (pos 0) ⌝ }
 {
-    let mut out = [0i64; 20];
+    *s = [0i64; 20];
     let mut k = 0;
     while k < m - i + 1 {
-        out[k] = arithmetic::round_div(counts[20 * (i - 1) + k] * g, latest);
+        s[k] = arithmetic::round_div(set[20 * (i - 1) + k] * g, latest);
         k += 1;
     }
-    out
 }
 
-// The weights of year i under either basis: shares are those of counts, g the count share g(m-i),
-// and latest the sum C(i,m-i) of counts.
+// The weights of year i under either basis, into s, which holds the shares of counts under basis 1:
+// g are the count shares, and latest the sums of the counts of each year.
 pub fn weights(
-    counts: &[i64; 400],
+    s: &mut [i64; 20],
+    set: &[i64; 1200],
     m: usize,
     i: usize,
     basis: u64,
-    shares: [i64; 20],
-    g: i64,
-    latest: i64,
-) -> [i64; 20]
-    requires { ⌜ (1 ≤ i) × (i ≤ m) × (m ≤ 20) × (natAbs g ≤ 10 ^ 9) × (pos 0 ⋖ latest) × (natAbs latest ≤ 10 ^ 18) ⌝ }
-    requires { ⌜ ((k : ℕ) → k ≤ m - i → natAbs (cell (now counts) i k) ≤ 10 ^ 7) ⌝ }
-    ensures { λ s. ⌜ s ≡ weightsFrom m (now (counts .entry)) i basis shares g latest ⌝ }
+    g: &[i64; 20],
+    latest: &[i64; 20],
+)
+    requires { ⌜ Counted m i (triangleIn 0 (now set)) (at (now g) (m - i)) (at (now latest) (i - 1)) ⌝ }
+    ensures { λ _. ⌜ now (s .exit) ≡ yearWeights m (triangleIn 0 (now (set .entry))) basis (now (s .entry)) (now (g .entry)) (now (latest .entry)) i ⌝ }
 {
     if basis == 1 {
-        return shares;
+        return;
     }
-    actual_weights(counts, m, i, g, latest)
+    actual_weights(s, set, m, i, g[m - i], latest[i - 1]);
 }

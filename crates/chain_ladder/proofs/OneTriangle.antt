@@ -1,55 +1,40 @@
--- One triangle t of a set, on the way from its sums x through its cumulative shares y to its chain
--- ladder. Assumes nothing.
-use mathlib.Core.Path.{_≡_, _∙_, ap}
-use mathlib.Core.Bool.{true}
+-- One triangle t of a set, on the way from its sums through its cumulative shares to its shares and
+-- ultimates. Assumes nothing.
+use mathlib.Core.Path.{_≡_, sym, _∙_}
+use mathlib.Core.Bool.{Bool, true}
 use mathlib.Core.List.{List}
 use Prim.Native.Nat.{ℕ, _^_, _≤_, _<_}
 use lib.IntN.{ℤ, pos}
 use Rattle.integers.specs.Parts.{_⋖_}
-use Rattle.model.specs.Lists.{listed, every}
-use Rattle.model.specs.Shares as Shares
-use Rattle.model.specs.Shares.{B, g, gList}
-use Rattle.chain_ladder.specs.Sums.{Small, sumsOf}
-use Rattle.chain_ladder.specs.Ladder.{bounded, Steps, Ready, boundedOf, gOf, grown, laddered}
-use Rattle.chain_ladder.specs.Developed.{development}
-use Rattle.chain_ladder.specs.LadderLaws.{steps, ready, bounded-is, bounded-yes, ultimates-are, laddered-is}
-use Rattle.chain_ladder.specs.declared.TriangleSums.{TriangleSums}
-use Rattle.chain_ladder.specs.declared.ladder.Bounded.{Bounded}
+use Rattle.model.specs.Lists.{every}
+use Rattle.model.specs.Shares.{B, g}
+use Rattle.chain_ladder.specs.Sums.{Small, latests, aSums, bSums}
+use Rattle.chain_ladder.specs.Ladder.{bounded, Bounded, Steps, Ready, gOf}
+use Rattle.chain_ladder.specs.Developed.{Ladder}
+use Rattle.chain_ladder.specs.LadderLaws.{steps, ready, bounds-are, list-is, ladder-ready}
 
-pub record Summed (m : ℕ) (t : List ℤ) (x : TriangleSums) : Type 0 where
+-- the lists of its sums
+pub record Summed (m : ℕ) (t latest a b : List ℤ) : Type 0 where
   pub some : 1 ≤ m
   pub small : Small m (10 ^ 10) t
-  pub sums : x ≡ sumsOf m t
+  pub latest-is : latest ≡ latests m t
+  pub a-is : a ≡ aSums m t
+  pub b-is : b ≡ bSums m t
 
-module _ {m : ℕ} {t : List ℤ} {x : TriangleSums} (made : Summed m t x) where
-  pub steps-of : ((j : ℕ) → 1 ≤ j → j < m → pos 0 ⋖ B m t j) → Steps m (x .a) (x .b)
-  unfolding sumsOf
-  steps-of columns = rw (made .sums) (steps m t (made .some) (made .small) columns)
+module _ {m : ℕ} {t latest a b : List ℤ} (made : Summed m t latest a b) where
+  pub steps-of : ((j : ℕ) → 1 ≤ j → j < m → pos 0 ⋖ B m t j) → Steps m a b
+  steps-of columns = rw (made .a-is, made .b-is) (steps m t (made .some) (made .small) columns)
 
-  module _ {y : Bounded} (shares : y ≡ boundedOf m (gOf m (x .a) (x .b))) where
-    shares-are : y ≡ boundedOf m (g m t)
-    unfolding sumsOf
-    shares-are = rw (made .sums) at shares ∙ bounded-is m t (made .some) (made .small)
+  module _ {ok : Bool} {list : List ℤ} (shares : Bounded m (gOf m a b) ok list) where
+    from-sums : Bounded m (gOf m (aSums m t) (bSums m t)) ok list
+    from-sums = rw (made .a-is, made .b-is) at shares
 
-    pub ok-is : y .ok ≡ every m (λ j. bounded (g m t j))
-    unfolding boundedOf
-    ok-is = ap (λ (z : Bounded). z .ok) shares-are
+    pub ok-is : ok ≡ every m (λ j. bounded (g m t j))
+    ok-is = bounds-are m t (made .some) (made .small) from-sums
 
-    module _ (ok : y .ok ≡ true) where
-      all-in : every m (λ j. bounded (g m t j)) ≡ true
-      all-in = rw ok-is at ok
+    module _ (yes : ok ≡ true) where
+      pub ladder-of : Ladder m t latest list
+      ladder-of = record { latest-is = made .latest-is; g-is = list-is m t (made .some) (made .small) from-sums yes }
 
-      g-is : y .g ≡ gList m t
-      g-is = ap (λ (z : Bounded). z .g) (shares-are ∙ bounded-yes m t (made .some) (made .small) all-in)
-
-      pub ready-of : Ready m (x .latest) (y .g)
-      unfolding sumsOf
-      ready-of = rw (made .sums, g-is) (ready m t (made .some) (made .small) all-in)
-
-      pub ultimates-of : listed 20 m (grown m (x .latest) (y .g)) (pos 0) ≡ Shares.ultimates m t
-      unfolding sumsOf
-      ultimates-of = rw (made .sums, g-is) (ultimates-are m t (made .small .few))
-
-      pub ladder-of : laddered m (x .latest) (y .g) ≡ development m t
-      unfolding sumsOf
-      ladder-of = rw (made .sums, g-is) (laddered-is m t (made .small .few))
+      pub ready-of : Ready m latest list
+      ready-of = ladder-ready ladder-of (ready m t (made .some) (made .small) (sym ok-is ∙ yes))

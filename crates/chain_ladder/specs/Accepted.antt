@@ -15,10 +15,9 @@ use Rattle.model.specs.Records.{cell, kindAt, valueAt, records, isOf, copies, v
 use Rattle.model.specs.RecordsLaws.{cell-triangle}
 use Rattle.model.specs.Questions.{q1, q4, q5, q5Writer, kinds, eachCell, ofFile, ofRecords}
 use Rattle.model.specs.QuestionsLaws.{EachYes, numbered, each-yes, eachCell-at, eachCell-all}
-use Rattle.model.specs.Calls.{readRefusal, readAnswer}
-use Rattle.model.specs.CallsLaws.{read-refusal, read-whole}
+use Rattle.model.specs.Calls.{readRefusal}
+use Rattle.model.specs.Lent.{lentSet, ReadInto}
 use Rattle.model.specs.declared.TriangleSet.{TriangleSet}
-use Rattle.model.specs.declared.ReadAnswer.{ReadAnswer}
 use Rattle.model.specs.Lengths.{size-so}
 use Rattle.model.specs.Tests.{by-test}
 use Rattle.chain_ladder.specs.Valid.{Valid}
@@ -79,9 +78,9 @@ pub record Accepted (m : ℕ) (f : List ℕ) (s : TriangleSet) : Type 0 where
   pub valid : Valid m s
   pub is : s ≡ setOf m f
 
--- what the reader hands back without a refusal
-pub accepted : (m : ℕ) (f : List ℕ) {r : ReadAnswer} → r ≡ readAnswer m f → r .refusal ≡ 0 → Accepted m f (r .set)
+-- what the reader leaves without a refusal
+pub accepted : (m : ℕ) (f : List ℕ) {n : ℕ} {set : List ℤ} → ReadInto m f n set → n ≡ 0 → Accepted m f (lentSet (hasIncurred m f) set)
 accepted m f e z =
-    let read = sym (read-refusal m f e) ∙ z in
-    let is = read-whole m f e z in
+    let read = sym (e .result) ∙ z in
+    let is = e .holds z in
     record { read = read; valid = subst (Valid m) (sym is) (valid-set m f read); is = is }

@@ -1,6 +1,6 @@
 -- What questions 9 to 11 and 13 say of triangles, and the answers of `develop` and
 -- `incurred_ultimates` by them. Assumes nothing.
-use mathlib.Core.Path.{_≡_, refl, _∙_, ap}
+use mathlib.Core.Path.{_≡_, refl, _∙_}
 use mathlib.Core.Bool.{Bool, true, false, _&&_}
 use mathlib.Core.List.{List}
 use Prim.Native.Nat.{ℕ, suc, _-_, _^_, _≤_, _<_}
@@ -11,19 +11,15 @@ use Rattle.integers.specs.Parts.{_⩽_, _⋖_}
 use Rattle.integers.specs.Order.{lt-yes, le-yes}
 use Rattle.model.specs.Lists.{at, every}
 use Rattle.model.specs.ListsLaws.{every-at, every-and}
-use Rattle.model.specs.Shares as Shares
-use Rattle.model.specs.Shares.{latest, A, B, g}
+use Rattle.model.specs.Shares.{latest, A, B, g, gList}
 use Rattle.model.specs.Questions.{firstNo, ofShares, q9, q10, q11, q13}
 use Rattle.model.specs.QuestionsLaws.{EachYes, numbered, each-yes}
-use Rattle.model.specs.CallsLaws.{if-accepted, if-refused, number-of}
 use Rattle.model.specs.declared.TriangleSet.{TriangleSet}
 use Rattle.chain_ladder.specs.SharesLaws.{Sound, B-pos}
 use Rattle.chain_ladder.specs.Sums.{Small, latests, bSums}
-use Rattle.chain_ladder.specs.Ladder.{bounded}
-use Rattle.chain_ladder.specs.LadderLaws.{above, asked-B, asked-rows, columns-above, bounded-first}
+use Rattle.chain_ladder.specs.Ladder.{bounded, Ready}
+use Rattle.chain_ladder.specs.LadderLaws.{above, asked-B, asked-rows, columns-above, bounded-first, ready}
 use Rattle.chain_ladder.specs.Valid.{Valid, Amounts, small-up, counts-of, paid-of}
-use Rattle.chain_ladder.specs.declared.Developed.{Developed}
-use Rattle.chain_ladder.specs.Developed.{noDeveloped, bothDeveloped, developed, noIncurred, incurredOf}
 
 -- the questions of the shares, each with its yes
 pub record Asked (m : ℕ) (c d : List ℤ) : Type 0 where
@@ -63,18 +59,6 @@ module _ (m : ℕ) (c d : List ℤ) where
   pub shares-numbered : numbered (ofShares m c d) ≡ true
   unfolding ofShares numbered
   shares-numbered = refl
-
-  pub developed-refusal : {x : Developed} → x ≡ developed m c d → x .refusal ≡ firstNo (ofShares m c d)
-  unfolding developed
-  developed-refusal e = ap (λ (y : Developed). y .refusal) e ∙ number-of _ _ _ (λ (y : Developed). y .refusal) refl refl
-
-  pub developed-no : (n : ℕ) → firstNo (ofShares m c d) ≡ suc n → developed m c d ≡ noDeveloped (suc n)
-  unfolding developed
-  developed-no n e = if-refused _ _ _ (λ (z : firstNo (ofShares m c d) ≡ 0). omega arith) ∙ ap noDeveloped e
-
-  pub developed-yes : firstNo (ofShares m c d) ≡ 0 → developed m c d ≡ bothDeveloped m c d
-  unfolding developed
-  developed-yes e = if-accepted _ _ _ e
 
 -- ---- counts
 module _ (m : ℕ) (c : List ℤ) (ok : Amounts m (10 ^ 7) c) where
@@ -149,6 +133,12 @@ module _ {m : ℕ} {c d : List ℤ} (h : Shared m c d) where
   pub paid-bounds : every m (λ j. bounded (g m d j)) ≡ true
   paid-bounds = asked-11-paid m d (h .paid) (yes .columns) ∙ yes .paid
 
+  pub counts-ready : Ready m (latests m c) (gList m c)
+  counts-ready = ready m c (let l = h .counts .least in omega arith) (counts-sized m c (h .counts)) counts-bounds
+
+  pub paid-ready : Ready m (latests m d) (gList m d)
+  paid-ready = ready m d (let l = h .paid .least in omega arith) (h .paid .small) paid-bounds
+
 -- ---- question 13 of incurred t: the tests that it is made of
 module _ (m : ℕ) (t : List ℤ) where
   abbrev pub A-above : Bool
@@ -163,11 +153,3 @@ module _ (m : ℕ) (t : List ℤ) where
   pub q13-is : q13 m t ≡ ((A-above && B-above) && latest-least && every m (λ j. bounded (g m t j)))
   unfolding q13
   q13-is = rw (every-and (λ k. ltZ (pos 0) (A m t (suc k))) (λ k. ltZ (pos 0) (B m t (suc k))) (m - 1))
-
-  pub incurred-no : q13 m t ≡ false → incurredOf m t ≡ noIncurred
-  unfolding incurredOf
-  incurred-no e = rw e
-
-  pub incurred-yes : q13 m t ≡ true → incurredOf m t ≡ record { ok = true; ultimates = Shares.ultimates m t }
-  unfolding incurredOf
-  incurred-yes e = rw e

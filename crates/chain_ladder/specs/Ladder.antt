@@ -1,15 +1,13 @@
 -- The chain ladder from the lists of a triangle's sums, and what its functions ask of these.
 use Prim.Native.Nat.{ℕ, zero, suc, _-_, _*_, _^_, _≤_, _<_}
-use mathlib.Core.Bool.{Bool, cond}
+use mathlib.Core.Bool.{Bool, true, cond}
 use mathlib.Core.List.{List}
 use lib.IntN.{ℤ, pos, natAbs, _-ℤ_, _*ℤ_}
 use Rattle.integers.specs.Parts.{_⩽_, _⋖_}
 use Rattle.model.specs.Lists.{at, listed, every}
 use Rattle.model.specs.Rounding.{S, r}
 use Rattle.model.specs.Questions.{within}
-use Rattle.model.specs.Calls.{zeros}
-use Rattle.chain_ladder.specs.declared.Development.{Development}
-use Rattle.chain_ladder.specs.declared.ladder.Bounded.{Bounded}
+use mathlib.Core.Path.{_≡_}
 use Rattle.chain_ladder.specs.declared.ladder.Share.{Share}
 use Rattle.chain_ladder.specs.declared.ladder.Share.the-variants.{Inside, Outside}
 
@@ -30,9 +28,10 @@ stepsDown m a b (suc n) = r (stepsDown m a b n *ℤ at a (m - 1 - suc n)) (at b 
 unfoldable pub gOf : ℕ → List ℤ → List ℤ → ℕ → ℤ
 gOf m a b j = stepsDown m a b (m - 1 - j)
 
--- g(j) at place j, where each is in its bounds
-unfoldable pub boundedOf : ℕ → (ℕ → ℤ) → Bounded
-boundedOf m g = let ok = every m (λ j. bounded (g j)) in record { ok = ok; g = cond ok (listed 20 m g (pos 0)) (zeros 20) }
+-- whether each g(j) is in its bounds, and where each is, the list of them
+pub record Bounded (m : ℕ) (g : ℕ → ℤ) (ok : Bool) (list : List ℤ) : Type 0 where
+  pub answer : ok ≡ every m (λ j. bounded (g j))
+  pub listed-all : ok ≡ true → list ≡ listed 20 m g (pos 0)
 
 -- the sums that the steps divide: at most 4 × 10^12, and those divided by above zero
 pub record Steps (m : ℕ) (a b : List ℤ) : Type 0 where
@@ -49,11 +48,6 @@ difference g (suc k) = at g (suc k) -ℤ at g k
 -- the ultimate of year k + 1, from the latest sums and the cumulative shares
 unfoldable pub grown : ℕ → List ℤ → List ℤ → ℕ → ℤ
 grown m latest g k = r (at latest k *ℤ S) (at g (m - suc k))
-
--- the whole chain ladder, from these
-unfoldable pub laddered : ℕ → List ℤ → List ℤ → Development
-laddered m latest g =
-    record { latest = latest; g = g; shares = listed 20 m (difference g) (pos 0); ultimates = listed 20 m (grown m latest g) (pos 0) }
 
 -- cumulative shares in their bounds
 pub record InBounds (m : ℕ) (g : List ℤ) : Type 0 where

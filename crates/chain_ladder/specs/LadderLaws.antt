@@ -1,6 +1,6 @@
 -- Laws of Ladder, and that the chain ladder from a triangle's lists is that of the triangle.
 -- Assumes nothing.
-use mathlib.Core.Path.{_≡_, refl, sym, _∙_, ap, ap₂}
+use mathlib.Core.Path.{_≡_, refl, sym, _∙_, ap}
 use mathlib.Core.Bool.{Bool, true, false, cond}
 use mathlib.Core.List.{List}
 use Prim.Native.Nat.{ℕ, zero, suc, _-_, _*_, _^_, _≤_, _<_}
@@ -19,8 +19,8 @@ use Rattle.model.specs.Tests.{by-test}
 use Rattle.chain_ladder.specs.SharesLaws.{NotNegative, Sound, g-range, g-down, at-gList}
 use Rattle.chain_ladder.specs.Sums.{Small, latests, aSums, bSums}
 use Rattle.chain_ladder.specs.SumsLaws.{latest-small, A-small, B-small}
-use Rattle.chain_ladder.specs.Ladder.{bounded, shareIn, stepsDown, gOf, boundedOf, Steps, Ready, difference, grown, laddered}
-use Rattle.chain_ladder.specs.Developed.{development}
+use Rattle.chain_ladder.specs.Ladder.{bounded, shareIn, stepsDown, gOf, Bounded, Steps, Ready, difference, grown}
+use Rattle.chain_ladder.specs.Developed.{Ladder}
 use Rattle.chain_ladder.specs.declared.ladder.Share.the-variants.{Inside, Outside}
 
 -- a cumulative share in its bounds, by its magnitude
@@ -97,13 +97,24 @@ module _ (m : ℕ) (t : List ℤ) (few : m ≤ 20) where
   unfolding grown ultimate
   grown-is k h = rw (at-latests k h, at-gList m t few (m - suc k) (omega arith))
 
-  pub ultimates-are : listed 20 m (grown m (latests m t) (gList m t)) (pos 0) ≡ Shares.ultimates m t
+  shares-are : listed 20 m (difference (gList m t)) (pos 0) ≡ bList m t
+  unfolding bList
+  shares-are = listed-ext 20 m _ _ (pos 0) difference-is
+
+  ultimates-are : listed 20 m (grown m (latests m t) (gList m t)) (pos 0) ≡ Shares.ultimates m t
   unfolding Shares.ultimates
   ultimates-are = listed-ext 20 m _ _ (pos 0) grown-is
 
-  pub laddered-is : laddered m (latests m t) (gList m t) ≡ development m t
-  unfolding laddered development bList
-  laddered-is = ap₂ (λ (x y : List ℤ). record { latest = latests m t; g = gList m t; shares = x; ultimates = y }) (listed-ext 20 m _ _ (pos 0) difference-is) ultimates-are
+-- ---- from the lists of a triangle
+module _ {m : ℕ} {t latest g : List ℤ} (l : Ladder m t latest g) where
+  pub ladder-ready : Ready m (latests m t) (gList m t) → Ready m latest g
+  ladder-ready h = rw (l .latest-is, l .g-is) h
+
+  pub ladder-shares : m ≤ 20 → listed 20 m (difference g) (pos 0) ≡ bList m t
+  ladder-shares few = rw (l .g-is) (shares-are m t few)
+
+  pub ladder-ultimates : m ≤ 20 → listed 20 m (grown m latest g) (pos 0) ≡ Shares.ultimates m t
+  ladder-ultimates few = rw (l .latest-is, l .g-is) (ultimates-are m t few)
 
 -- ---- tests of lists
 above-zero : (z : ℤ) → leZ (pos 1) z ≡ ltZ (pos 0) z
@@ -143,13 +154,16 @@ pub above : {x : ℤ} → pos (10 ^ 6) ⩽ x → pos 0 ⋖ x
 above h = omega (arith, ints)
 
 module _ (m : ℕ) (t : List ℤ) (some : 1 ≤ m) (small : Small m (10 ^ 10) t) where
-  pub bounded-is : boundedOf m (gOf m (aSums m t) (bSums m t)) ≡ boundedOf m (g m t)
-  unfolding boundedOf
-  bounded-is =
-      rw (
-        every-ext (λ j. bounded (gOf m (aSums m t) (bSums m t) j)) (λ j. bounded (g m t j)) m (λ j h. ap bounded (gOf-is m t (small .few) j h)),
-        listed-ext 20 m (gOf m (aSums m t) (bSums m t)) (g m t) (pos 0) (gOf-is m t (small .few)),
-      )
+  -- the answer and the list of the cumulative shares from the sums
+  module _ {ok : Bool} {list : List ℤ} (made : Bounded m (gOf m (aSums m t) (bSums m t)) ok list) where
+    pub bounds-are : ok ≡ every m (λ j. bounded (g m t j))
+    bounds-are =
+        made .answer
+        ∙ every-ext (λ j. bounded (gOf m (aSums m t) (bSums m t) j)) (λ j. bounded (g m t j)) m (λ j h. ap bounded (gOf-is m t (small .few) j h))
+
+    pub list-is : ok ≡ true → list ≡ gList m t
+    unfolding gList
+    list-is e = made .listed-all e ∙ listed-ext 20 m (gOf m (aSums m t) (bSums m t)) (g m t) (pos 0) (gOf-is m t (small .few))
 
   pub steps : ((j : ℕ) → 1 ≤ j → j < m → pos 0 ⋖ B m t j) → Steps m (aSums m t) (bSums m t)
   steps columns = record {
@@ -160,10 +174,6 @@ module _ (m : ℕ) (t : List ℤ) (some : 1 ≤ m) (small : Small m (10 ^ 10) t)
   }
 
   module _ (ok : every m (λ j. bounded (g m t j)) ≡ true) where
-    pub bounded-yes : boundedOf m (g m t) ≡ record { ok = true; g = gList m t }
-    unfolding boundedOf gList
-    bounded-yes = rw ok
-
     pub ready : Ready m (latests m t) (gList m t)
     ready = record {
       bounds = record { some = some; few = small .few; shares = λ k h. rw (at-gList m t (small .few) k h) (bounded-so _ (every-at (λ j. bounded (g m t j)) m k ok h)) };

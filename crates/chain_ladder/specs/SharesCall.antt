@@ -1,15 +1,14 @@
 -- What the call `shares` hands back of a file. Assumes nothing.
-use mathlib.Core.Path.{_≡_, refl, sym, _∙_, ap}
+use mathlib.Core.Path.{_≡_, refl, _∙_}
 use mathlib.Core.List.{List, []}
 use Prim.Native.Nat.{ℕ}
+use lib.IntN.{ℤ}
 use Rattle.model.specs.Records.{setOf}
 use Rattle.model.specs.Questions.{firstNo, ofShares}
 use Rattle.model.specs.QuestionsLaws.{no-refusal, numbered}
-use Rattle.model.specs.Calls.{readRefusal, sharesRefusal, sharesOf, refusedShares, sharesAnswer}
-use Rattle.model.specs.CallsLaws.{by-file, by-set, all-passed, if-accepted, if-refused, number-of}
+use Rattle.model.specs.Calls.{ifAccepted, zeros, readRefusal, sharesRefusal, sharesOf, refusedShares, sharesAnswer}
+use Rattle.model.specs.CallsLaws.{by-file, by-set, as-answered, if-accepted, number-of}
 use Rattle.model.specs.declared.SharesAnswer.{SharesAnswer}
-use Rattle.chain_ladder.specs.Accepted.{valid-set}
-use Rattle.chain_ladder.specs.DevelopedLaws.{Shared, shared-set}
 
 module _ (m : ℕ) (f : List ℕ) where
   -- the first no of the set's questions
@@ -25,19 +24,30 @@ module _ (m : ℕ) (f : List ℕ) where
   unfolding sharesRefusal numbered
   shares-after read = by-set m f [] _ refl read (no-refusal [] tt)
 
-  pub shares-no : (n : ℕ) → sharesRefusal m f ≡ n → (n ≡ 0 → ⊥) → sharesAnswer m f ≡ refusedShares n
-  unfolding sharesAnswer
-  shares-no n e o = if-refused _ _ _ (λ z. o (sym e ∙ z)) ∙ ap refusedShares e
-
   pub shares-yes : sharesRefusal m f ≡ 0 → sharesAnswer m f ≡ sharesOf m (setOf m f)
   unfolding sharesAnswer
   shares-yes e = if-accepted _ _ _ e
 
-  -- an accepted file's counts and paid
-  pub shares-so : sharesRefusal m f ≡ 0 → Shared m (setOf m f .counts) (setOf m f .paid)
-  unfolding sharesRefusal numbered
-  shares-so e = let a = all-passed m f [] _ refl e in shared-set m (setOf m f) (valid-set m f (a .0)) (a .2)
-
-  pub shares-refusal : {r : SharesAnswer} → r ≡ sharesAnswer m f → r .refusal ≡ sharesRefusal m f
+  pub shares-refusal : sharesAnswer m f .refusal ≡ sharesRefusal m f
   unfolding sharesAnswer sharesOf
-  shares-refusal e = ap (λ (x : SharesAnswer). x .refusal) e ∙ number-of _ _ _ (λ (x : SharesAnswer). x .refusal) refl refl
+  shares-refusal = number-of _ _ _ (λ (x : SharesAnswer). x .refusal) refl refl
+
+  -- what is written into lists of zeros is the answer
+  as-made : {n : ℕ} → n ≡ sharesAnswer m f .refusal → (part : SharesAnswer → List ℤ) → part (refusedShares (sharesRefusal m f)) ≡ zeros 20
+      → ifAccepted n (part (sharesAnswer m f)) (zeros 20) ≡ part (sharesAnswer m f)
+  unfolding sharesAnswer
+  as-made e part z = rw (e ∙ shares-refusal) (as-answered (sharesRefusal m f) _ _ part (zeros 20) z)
+
+  pub shares-whole : {k : ℕ} {b n q g u : List ℤ} → k ≡ sharesAnswer m f .refusal
+      → b ≡ ifAccepted k (sharesAnswer m f .b) (zeros 20) → n ≡ ifAccepted k (sharesAnswer m f .n) (zeros 20) → q ≡ ifAccepted k (sharesAnswer m f .q) (zeros 20)
+      → g ≡ ifAccepted k (sharesAnswer m f .g) (zeros 20) → u ≡ ifAccepted k (sharesAnswer m f .u) (zeros 20)
+      → record { refusal = k; b = b; n = n; q = q; g = g; u = u } ≡ sharesAnswer m f
+  shares-whole e eb en eq eg eu =
+      rw (
+        eb ∙ as-made e (λ x. x .b) refl,
+        en ∙ as-made e (λ x. x .n) refl,
+        eq ∙ as-made e (λ x. x .q) refl,
+        eg ∙ as-made e (λ x. x .g) refl,
+        eu ∙ as-made e (λ x. x .u) refl,
+        e,
+      )

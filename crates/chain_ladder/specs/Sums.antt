@@ -6,7 +6,6 @@ use Rattle.model.specs.Lists.{at, listed}
 use Rattle.model.specs.Records.{cell}
 use Rattle.model.specs.Shares.{A, B}
 use Rattle.model.specs.Shares as Shares
-use Rattle.chain_ladder.specs.declared.TriangleSums.{TriangleSums}
 
 -- at most 20 years, and no cell further from 0 than n
 pub record Small (m n : ℕ) (t : List ℤ) : Type 0 where
@@ -16,7 +15,7 @@ pub record Small (m n : ℕ) (t : List ℤ) : Type 0 where
 -- at most 20 cells that stand d places apart, from place a on, none further from 0 than 10^10
 pub record Spaced (a d n : ℕ) (t : List ℤ) : Type 0 where
   pub few : n ≤ 20
-  pub places : (k : ℕ) → k < n → a + d * k < 400
+  pub places : (k : ℕ) → k < n → a + d * k < 1200
   pub cells : (k : ℕ) → k < n → natAbs (at t (a + d * k)) ≤ 10 ^ 10
 
 -- C(i,m-i), year i at place i - 1
@@ -30,7 +29,3 @@ aSums m t = listed 20 (m - 1) (λ k. A m t (suc k)) (pos 0)
 -- B(j) at place j - 1
 unfoldable pub bSums : ℕ → List ℤ → List ℤ
 bSums m t = listed 20 (m - 1) (λ k. B m t (suc k)) (pos 0)
-
--- all three
-unfoldable pub sumsOf : ℕ → List ℤ → TriangleSums
-sumsOf m t = record { latest = latests m t; a = aSums m t; b = bSums m t }

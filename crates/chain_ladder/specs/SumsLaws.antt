@@ -1,6 +1,6 @@
 -- Laws of a triangle's sums: how they go on from delay to delay, and how large they get. Assumes
 -- nothing.
-use mathlib.Core.Path.{_≡_, _∙_, ap}
+use mathlib.Core.Path.{_≡_, sym, _∙_}
 use mathlib.Core.List.{List, [], _∷_}
 use Prim.Native.Nat.{ℕ, suc, _+_, _-_, _*_, _^_, _≤_, _<_}
 use native.Mathlib.Nat.{sub-zero, mul-le-mul-right}
@@ -10,6 +10,7 @@ use Rattle.integers.specs.Solver.{ring, form}
 use Rattle.integers.specs.Sums.{sum, sum-one, sum-suc, sum-cong, sum-+ℤ, sum-natAbs}
 use Rattle.model.specs.Lists.{at}
 use Rattle.model.specs.Records.{cell}
+use Rattle.model.specs.Lent.{triangleIn, at-triangle}
 use Rattle.model.specs.Shares.{C, latest, A, B}
 use Rattle.chain_ladder.specs.Sums.{Small, Spaced}
 
@@ -43,20 +44,44 @@ B-next m t j =
     let before : suc j - 1 ≡ j = omega arith in
     rw before (sum-cong (m - suc j) (λ k l. C-next t (suc k) j) ∙ sum-+ℤ (m - suc j) (λ k. C t (suc k) j) (λ k. cell t (suc k) (suc j)))
 
--- a row's cells stand one after the other, a column's cells 20 places apart
-module _ (t : List ℤ) where
-  row-cell : (k j : ℕ) → at t (20 * k + 1 * j) ≡ cell t (suc k) j
-  row-cell k j = let e : 20 * k + 1 * j ≡ 20 * (suc k - 1) + j = omega arith in ap (at t) e
+-- in a lent set a row's cells stand one after the other, a column's cells 20 places apart
+module _ (set : List ℤ) (kind : ℕ) where
+  abbrev t : List ℤ
+  t = triangleIn kind set
 
-  column-cell : (j i : ℕ) → at t (j + 20 * i) ≡ cell t (suc i) j
-  column-cell j i = let e : j + 20 * i ≡ 20 * (suc i - 1) + j = omega arith in ap (at t) e
+  row-cell : (k j : ℕ) → k < 20 → j < 20 → at set (400 * kind + 20 * k + 1 * j) ≡ cell t (suc k) j
+  row-cell k j h l =
+      let e : 400 * kind + 20 * k + 1 * j ≡ 400 * kind + (20 * (suc k - 1) + j) = omega arith in
+      rw e (sym (at-triangle kind (20 * (suc k - 1) + j) set (omega arith)))
 
-  pub row-sum : (m k : ℕ) → k < m → sum (m - k) (λ j. at t (20 * k + 1 * j)) ≡ latest m t (suc k)
+  column-cell : (j i : ℕ) → i < 20 → j < 20 → at set (400 * kind + j + 20 * i) ≡ cell t (suc i) j
+  column-cell j i h l =
+      let e : 400 * kind + j + 20 * i ≡ 400 * kind + (20 * (suc i - 1) + j) = omega arith in
+      rw e (sym (at-triangle kind (20 * (suc i - 1) + j) set (omega arith)))
+
+  pub row-sum : (m k : ℕ) → m ≤ 20 → k < m → sum (m - k) (λ j. at set (400 * kind + 20 * k + 1 * j)) ≡ latest m t (suc k)
   unfolding latest C
-  row-sum m k h = let n : suc (m - suc k) ≡ m - k = omega arith in rw n (sum-cong (m - k) (λ j l. row-cell k j))
+  row-sum m k few h = let n : suc (m - suc k) ≡ m - k = omega arith in rw n (sum-cong (m - k) (λ j l. row-cell k j (omega arith) (omega arith)))
 
-  pub column-sum : (n j : ℕ) → sum n (λ i. at t (j + 20 * i)) ≡ sum n (λ i. cell t (suc i) j)
-  column-sum n j = sum-cong n (λ i l. column-cell j i)
+  pub column-sum : (n j : ℕ) → n ≤ 20 → j < 20 → sum n (λ i. at set (400 * kind + j + 20 * i)) ≡ sum n (λ i. cell t (suc i) j)
+  column-sum n j h l = sum-cong n (λ i u. column-cell j i (omega arith) l)
+
+  module _ (m : ℕ) (within : kind < 3) (small : Small m (10 ^ 10) t) where
+    pub row-spaced : (k : ℕ) → k < m → Spaced (400 * kind + 20 * k) 1 (m - k) set
+    row-spaced k h =
+        record {
+          few = omega (arith, small .few);
+          places = λ j l. omega (arith, small .few);
+          cells = λ j l. rw (row-cell k j (omega (arith, small .few)) (omega (arith, small .few))) (small .cells (suc k) j (omega arith) (omega arith));
+        }
+
+    pub column-spaced : (n j : ℕ) → n + j ≤ m → Spaced (400 * kind + j) 20 n set
+    column-spaced n j h =
+        record {
+          few = omega (arith, small .few);
+          places = λ i l. omega (arith, small .few);
+          cells = λ i l. rw (column-cell j i (omega (arith, small .few)) (omega (arith, small .few))) (small .cells (suc i) j (omega arith) (omega arith));
+        }
 
 -- a sum of at most 20 numbers
 few-small : (k n c : ℕ) → k ≤ 20 → n ≤ k * c → n ≤ 20 * c
@@ -82,20 +107,3 @@ module _ (m n : ℕ) (t : List ℤ) (small : Small m n t) where
   pub B-small : (j : ℕ) → j < m → natAbs (B m t j) ≤ 20 * (20 * n)
   unfolding B
   B-small j h = column-small j j h (omega arith)
-
-module _ (m : ℕ) (t : List ℤ) (small : Small m (10 ^ 10) t) where
-  pub row-spaced : (k : ℕ) → k < m → Spaced (20 * k) 1 (m - k) t
-  row-spaced k h =
-      record {
-        few = omega (arith, small .few);
-        places = λ j l. omega (arith, small .few);
-        cells = λ j l. rw (row-cell t k j) (small .cells (suc k) j (omega arith) (omega arith));
-      }
-
-  pub column-spaced : (n j : ℕ) → n + j ≤ m → Spaced j 20 n t
-  column-spaced n j h =
-      record {
-        few = omega (arith, small .few);
-        places = λ i l. omega (arith, small .few);
-        cells = λ i l. rw (column-cell t j i) (small .cells (suc i) j (omega arith) (omega arith));
-      }

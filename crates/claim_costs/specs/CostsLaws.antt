@@ -51,11 +51,13 @@ module _ {m : ℕ} {c d : List ℤ} (h : Shared m c d) where
   }
 
   -- the lists that are divided place by place
-  pub costs-exact : AllExact m (ultimates m d) (ultimates m c)
-  costs-exact = record { few = most; places = λ k l. rw (at-ultimates m d most k l, at-ultimates m c most k l) (cost-exact (suc k) (omega arith) l) }
+  pub costs-exact : {u n : List ℤ} → u ≡ ultimates m d → n ≡ ultimates m c → AllExact m u n
+  costs-exact e f =
+      record { few = most; places = λ k l. rw (e, f, at-ultimates m d most k l, at-ultimates m c most k l) (cost-exact (suc k) (omega arith) l) }
 
-  pub factors-exact : AllExact (m - 1) (bSums m d) (aSums m d)
-  factors-exact = record { few = omega (arith, most); places = λ k l. rw (at-bSums m d most k l, at-aSums m d most k l) (factor-exact (suc k) (omega arith) (omega arith)) }
+  pub factors-exact : {b a : List ℤ} → b ≡ bSums m d → a ≡ aSums m d → AllExact (m - 1) b a
+  factors-exact e f =
+      record { few = omega (arith, most); places = λ k l. rw (e, f, at-bSums m d most k l, at-aSums m d most k l) (factor-exact (suc k) (omega arith) (omega arith)) }
 
 -- mu, which every ratio is divided by: year 1 has payments
 pub mu-positive : (m : ℕ) (s : TriangleSet) → Shared m (s .counts) (s .paid) → T (positive (meanCost m s 1))
@@ -67,13 +69,13 @@ mu-positive m s h =
 
 -- ---- from the lists to the set
 module _ (m : ℕ) (s : TriangleSet) (few : m ≤ 20) where
-  pub costs-are : listed 20 m (λ k. quotient (at (ultimates m (s .paid)) k) (at (ultimates m (s .counts)) k)) noFloat ≡ meanCosts m s
+  pub costs-are : {u n : List ℤ} → u ≡ ultimates m (s .paid) → n ≡ ultimates m (s .counts) → listed 20 m (λ k. quotient (at u k) (at n k)) noFloat ≡ meanCosts m s
   unfolding meanCosts meanCost
-  costs-are = listed-ext 20 m _ _ noFloat (λ k h. ap₂ quotient (at-ultimates m (s .paid) few k h) (at-ultimates m (s .counts) few k h))
+  costs-are e f = rw (e, f) (listed-ext 20 m _ _ noFloat (λ k h. ap₂ quotient (at-ultimates m (s .paid) few k h) (at-ultimates m (s .counts) few k h)))
 
-  pub factors-are : listed 20 (m - 1) (λ k. quotient (at (bSums m (s .paid)) k) (at (aSums m (s .paid)) k)) noFloat ≡ claimCosts m s .factors
+  pub factors-are : {b a : List ℤ} → b ≡ bSums m (s .paid) → a ≡ aSums m (s .paid) → listed 20 (m - 1) (λ k. quotient (at b k) (at a k)) noFloat ≡ claimCosts m s .factors
   unfolding claimCosts factor
-  factors-are = listed-ext 20 (m - 1) _ _ noFloat (λ k h. ap₂ quotient (at-bSums m (s .paid) few k h) (at-aSums m (s .paid) few k h))
+  factors-are e f = rw (e, f) (listed-ext 20 (m - 1) _ _ noFloat (λ k h. ap₂ quotient (at-bSums m (s .paid) few k h) (at-aSums m (s .paid) few k h)))
 
   pub at-meanCosts : (k : ℕ) → k < m → costAt (meanCosts m s) k ≡ meanCost m s (suc k)
   unfolding meanCosts

@@ -1,15 +1,19 @@
 // The claim costs of a file (01, Claim-cost card): mu, the factors of paid, and the inflations.
+use chain_ladder::ladder::ultimates;
+use chain_ladder::sums::sums;
 use model::Inflation;
 use model::YearInflation;
 ghost use mathlib.Core.Path.{_≡_};
-ghost use Prim.Native.Nat.{suc, _≤_};
+ghost use mathlib.Core.Bool.{Bool};
+ghost use Prim.Native.Nat.{suc, _^_, _≤_};
 ghost use lib.Dec.{T};
 ghost use lib.Ieee.Positive.{positive};
 ghost use Rattle.model.specs.Lists.{at, listed};
 ghost use Rattle.model.specs.ClaimCosts.{quotient, noFloat, yearInflation};
 ghost use Rattle.model.specs.Calls.{refusedClaimCosts, claimCostsAnswer};
 ghost use Rattle.model.specs.declared.Inflation.the-variants.{NoPaymentsYet};
-ghost use Rattle.chain_ladder.specs.Valid.{Valid};
+ghost use Rattle.model.specs.Lent.{lentSet, triangleIn};
+ghost use Rattle.chain_ladder.specs.Valid.{Amounts};
 ghost use Rattle.claim_costs.specs.Costs.{Exact, AllExact, costAt, inflationOf, costsOfSet};
 
 // x / y: one division of two whole numbers that binary64 holds exactly.
@@ -21,9 +25,9 @@ fn quotient(x: i64, y: i64) -> f64
 }
 
 // The quotients of the first n places, then zeros.
-fn quotients(xs: [i64; 20], ys: [i64; 20], n: usize) -> [f64; 20]
-    requires { ⌜ AllExact n xs ys ⌝ }
-    ensures { λ r. ⌜ r ≡ listed 20 n (λ k. quotient (at xs k) (at ys k)) noFloat ⌝ }
+fn quotients<'a>(xs: &'a [i64; 20], ys: &'a [i64; 20], n: usize) -> [f64; 20]
+    requires { ⌜ AllExact n (now xs) (now ys) ⌝ }
+    ensures { λ r. ⌜ r ≡ listed 20 n (λ k. quotient (at (now (xs .entry)) k) (at (now (ys .entry)) k)) noFloat ⌝ }
 {
     let mut out = [0.0; 20];
     let mut k = 0;
@@ -51,9 +55,14 @@ fn inflation(i: usize, ultimate: i64, cost: f64, mu: f64) -> Inflation
 }
 
 // The inflations of years 1 to m, from their ultimates and mean costs.
-fn inflations(ultimates: [i64; 20], costs: [f64; 20], mu: f64, m: usize) -> [YearInflation; 20]
+fn inflations<'a>(
+    ultimates: &'a [i64; 20],
+    costs: &'a [f64; 20],
+    mu: f64,
+    m: usize,
+) -> [YearInflation; 20]
     requires { ⌜ (m ≤ 20) × T (positive mu) ⌝ }
-    ensures { λ r. ⌜ r ≡ listed 20 m (λ k. yearInflation (inflationOf (suc k) (at ultimates k) (costAt costs k) mu)) (yearInflation NoPaymentsYet) ⌝ }
+    ensures { λ r. ⌜ r ≡ listed 20 m (λ k. yearInflation (inflationOf (suc k) (at (now (ultimates .entry)) k) (costAt (now (costs .entry)) k) mu)) (yearInflation NoPaymentsYet) ⌝ }
 {
     let none = YearInflation {
         value: Inflation::NoPaymentsYet,
@@ -89,27 +98,40 @@ fn refused(number: u64) -> model::ClaimCostsAnswer
 }
 
 // Questions 9 to 11, and the claim costs of a set.
-fn claim_costs_of_set(set: model::TriangleSet, m: usize) -> model::ClaimCostsAnswer
-    requires { ⌜ Valid m set ⌝ }
-    ensures { λ r. ⌜ r ≡ costsOfSet m set ⌝ }
+fn claim_costs_of_set(set: &[i64; 1200], m: usize) -> model::ClaimCostsAnswer
+    requires { ⌜ Amounts m (10 ^ 7) (triangleIn 0 (now set)) × Amounts m (10 ^ 10) (triangleIn 1 (now set)) ⌝ }
+    ensures { λ r. ⌜ ((has : Bool) → r ≡ costsOfSet m (lentSet has (now (set .entry)))) ⌝ }
 {
-    let developed = chain_ladder::develop(&set.counts, &set.paid, m);
-    if developed.refusal != 0 {
-        return refused(developed.refusal);
+    let mut count_latest = [0i64; 20];
+    let mut count_g = [0i64; 20];
+    let mut paid_latest = [0i64; 20];
+    let mut paid_g = [0i64; 20];
+    let refusal = chain_ladder::develop(
+        set,
+        m,
+        &mut count_latest,
+        &mut count_g,
+        &mut paid_latest,
+        &mut paid_g,
+    );
+    if refusal != 0 {
+        return refused(refusal);
     }
-    let n = developed.counts.ultimates;
-    let u = developed.paid.ultimates;
-    let costs = quotients(u, n, m);
+    let n = ultimates(&count_latest, &count_g, m);
+    let u = ultimates(&paid_latest, &paid_g, m);
+    let costs = quotients(&u, &n, m);
     let mu = costs[0];
-    let sums = chain_ladder::sums::sums(&set.paid, m);
-    let a = sums.a;
-    let b = sums.b;
+    let mut latest = [0i64; 20];
+    let mut a = [0i64; 20];
+    let mut b = [0i64; 20];
+    sums(set, 1, m, &mut latest, &mut a, &mut b);
+    let factors = quotients(&b, &a, m - 1);
     model::ClaimCostsAnswer {
         refusal: 0,
         costs: model::ClaimCosts {
             mu,
-            factors: quotients(b, a, m - 1),
-            inflations: inflations(u, costs, mu, m),
+            factors,
+            inflations: inflations(&u, &costs, mu, m),
         },
     }
 }
@@ -118,9 +140,10 @@ fn claim_costs_of_set(set: model::TriangleSet, m: usize) -> model::ClaimCostsAns
 pub fn claim_costs(file: &[u8], m: usize) -> model::ClaimCostsAnswer
     ensures { λ r. ⌜ r ≡ claimCostsAnswer m (now (file .entry)) ⌝ }
 {
-    let read = triangles::read_set(file, m);
-    if read.refusal != 0 {
-        return refused(read.refusal);
+    let mut set = [0i64; 1200];
+    let refusal = triangles::read_cells(file, m, &mut set);
+    if refusal != 0 {
+        return refused(refusal);
     }
-    claim_costs_of_set(read.set, m)
+    claim_costs_of_set(&set, m)
 }

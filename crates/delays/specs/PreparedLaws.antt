@@ -1,5 +1,5 @@
 -- Laws of Prepared: the answer by its stages, and the call `delays` by it. Assumes nothing.
-use mathlib.Core.Path.{_≡_, refl, sym, _∙_, ap}
+use mathlib.Core.Path.{_≡_, refl, _∙_}
 use mathlib.Core.Bool.{true, false}
 use mathlib.Core.List.{List, []}
 use Prim.Native.Nat.{ℕ}
@@ -8,11 +8,13 @@ use Rattle.model.specs.Records.{setOf}
 use Rattle.model.specs.Delays.{delaysOf}
 use Rattle.model.specs.Questions.{q12, firstNo, ofShares, ofDelays}
 use Rattle.model.specs.QuestionsLaws.{numbered, no-refusal, each-yes, stage-no, stage-yes, stages-so}
-use Rattle.model.specs.Calls.{readRefusal, delaysRefusal, acceptedDelays, refusedDelays, delaysAnswer}
-use Rattle.model.specs.CallsLaws.{by-file, by-set, if-accepted, if-refused, number-of}
+use Rattle.model.specs.Calls.{ifAccepted, zeros, readRefusal, delaysRefusal, delaysAnswer}
+use Rattle.model.specs.CallsLaws.{by-file, by-set, number-of, as-answered}
+use Rattle.model.specs.Tests.{by-test}
+use Rattle.model.specs.declared.DelaysAnswer.{DelaysAnswer}
+use lib.Dec.{eqb}
 use Rattle.chain_ladder.specs.DevelopedLaws.{shares-numbered}
-use Rattle.delays.specs.declared.Prepared.{Prepared}
-use Rattle.delays.specs.Prepared.{pairDelays, preparedRefusal, unprepared, allPrepared, prepared}
+use Rattle.delays.specs.Prepared.{pairDelays, preparedRefusal}
 
 module _ (m : ℕ) (c d : List ℤ) where
   -- ---- the refusal, stage by stage
@@ -41,19 +43,6 @@ module _ (m : ℕ) (c d : List ℤ) where
   unfolding preparedRefusal ofDelays numbered
   prepared-so z = let a = stages-so (ofShares m c d) (ofDelays m p) (shares-numbered m c d) z in (a .0, each-yes (ofDelays m p) refl (a .1) .0)
 
-  -- ---- the answer
-  pub prepared-no : (n : ℕ) → preparedRefusal m c d ≡ n → (n ≡ 0 → ⊥) → prepared m c d ≡ unprepared n
-  unfolding prepared
-  prepared-no n e o = if-refused _ _ _ (λ z. o (sym e ∙ z)) ∙ ap unprepared e
-
-  pub prepared-yes : preparedRefusal m c d ≡ 0 → prepared m c d ≡ allPrepared m c d
-  unfolding prepared
-  prepared-yes e = if-accepted _ _ _ e
-
-  pub prepared-refusal : {x : Prepared} → x ≡ prepared m c d → x .refusal ≡ preparedRefusal m c d
-  unfolding prepared
-  prepared-refusal e = ap (λ (y : Prepared). y .refusal) e ∙ number-of _ _ _ (λ (y : Prepared). y .refusal) refl refl
-
 -- ---- the call
 module _ (m : ℕ) (f : List ℕ) where
   pub delays-first : (readRefusal m f ≡ 0 → ⊥) → delaysRefusal m f ≡ readRefusal m f
@@ -64,10 +53,19 @@ module _ (m : ℕ) (f : List ℕ) where
   unfolding delaysRefusal preparedRefusal delaysOf numbered
   delays-after read = by-set m f [] _ refl read (no-refusal [] tt)
 
-  pub delays-no : (n : ℕ) → delaysRefusal m f ≡ n → (n ≡ 0 → ⊥) → delaysAnswer m f ≡ refusedDelays n
+  pub delays-refusal : delaysAnswer m f .refusal ≡ delaysRefusal m f
   unfolding delaysAnswer
-  delays-no n e o = if-refused _ _ _ (λ z. o (sym e ∙ z)) ∙ ap refusedDelays e
+  delays-refusal = number-of _ _ _ (λ (x : DelaysAnswer). x .refusal) refl refl
 
-  pub delays-yes : delaysRefusal m f ≡ 0 → delaysAnswer m f ≡ acceptedDelays (delaysOf m (setOf m f))
+  -- what is written over a list is the answer's, beside a refusal what stood there
+  pub delays-beside : (n : ℕ) (before : List ℤ) → n ≡ delaysRefusal m f → ifAccepted n (delaysOf m (setOf m f)) before ≡ ifAccepted n (delaysAnswer m f .p) before
   unfolding delaysAnswer
-  delays-yes e = if-accepted _ _ _ e
+  delays-beside n before e = rw e (by-test (eqb (delaysRefusal m f) 0) (λ t. rw t) (λ t. rw t))
+
+  -- into zeros, it is the answer
+  as-made : {n : ℕ} → n ≡ delaysRefusal m f → ifAccepted n (delaysAnswer m f .p) (zeros 20) ≡ delaysAnswer m f .p
+  unfolding delaysAnswer
+  as-made e = rw e (as-answered (delaysRefusal m f) _ _ (λ (x : DelaysAnswer). x .p) (zeros 20) refl)
+
+  pub delays-whole : {n : ℕ} {p : List ℤ} → n ≡ delaysAnswer m f .refusal → p ≡ ifAccepted n (delaysAnswer m f .p) (zeros 20) → record { refusal = n; p = p } ≡ delaysAnswer m f
+  delays-whole e q = rw (q ∙ as-made (e ∙ delays-refusal), e)

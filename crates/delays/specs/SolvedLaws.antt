@@ -65,15 +65,15 @@ module _ (m : ℕ) (b q : List ℤ) (s : Solvable m b q) (l : ℕ) (h : l < m) w
       }
 
 -- the shares of counts and paid that pass questions 9 to 11
-pub solvable : {m : ℕ} {c d : List ℤ} → Shared m c d → Solvable m (bList m c) (bList m d)
+pub solvable : {m : ℕ} {c d b q : List ℤ} → Shared m c d → b ≡ bList m c → q ≡ bList m d → Solvable m b q
 unfolding Shares.b
-solvable {m} {c} {d} h =
+solvable {m} {c} {d} h e f =
     let few = h .counts .small .few in
     let some : 1 ≤ m = (let l = h .counts .least in omega arith) in
-    record {
+    rw (e, f) (record {
       few = few;
       first = rw (at-bList m c few 0 some) (counts-least h);
       shares = λ k l. rw (at-bList m c few k l) (share-range m c (counts-sound h) k l .0);
       whole = sum-cong m (at-bList m c few) ∙ shares-sum m c some;
       targets = λ l k. rw (at-bList m d few l k) (share-range m d (paid-sound h) l k);
-    }
+    })

@@ -1,15 +1,16 @@
 // The delays of a set (01, Delays), question 12, and all that the methods share.
-use chain_ladder::Development;
+use chain_ladder::ladder::shares_of;
 ghost use mathlib.Core.Path.{_≡_};
 ghost use Prim.Native.Nat.{suc, _-_, _^_};
 ghost use lib.IntN.{_*ℤ_};
 ghost use Rattle.integers.specs.Sums.{sum};
 ghost use Rattle.model.specs.Lists.{at};
 ghost use Rattle.model.specs.Delays.{delayAfter};
-ghost use Rattle.model.specs.Calls.{refusedDelays, delaysAnswer};
+ghost use Rattle.model.specs.Calls.{ifAccepted, zeros, delaysAnswer};
+ghost use Rattle.model.specs.Lent.{triangleIn};
 ghost use Rattle.chain_ladder.specs.Valid.{Amounts};
 ghost use Rattle.delays.specs.Solved.{Weighed, Next, Solvable, unsolved, solvedOf};
-ghost use Rattle.delays.specs.Prepared.{unprepared, prepared};
+ghost use Rattle.delays.specs.Prepared.{Prepared};
 
 // The delays, p(l) at place l, where `ok` says that question 12 got a yes; else zeros.
 pub struct Solved {
@@ -54,14 +55,14 @@ fn no_delays() -> Solved
 
 // All m delays, from the shares b of counts and q of paid. It stops at the first that is outside
 // question 12's bounds.
-pub fn solve(m: usize, b: [i64; 20], q: [i64; 20]) -> Solved
-    requires { ⌜ Solvable m b q ⌝ }
-    ensures { λ r. ⌜ r ≡ solvedOf m b q ⌝ }
+pub fn solve<'a>(m: usize, b: &'a [i64; 20], q: &'a [i64; 20]) -> Solved
+    requires { ⌜ Solvable m (now b) (now q) ⌝ }
+    ensures { λ r. ⌜ r ≡ solvedOf m (now (b .entry)) (now (q .entry)) ⌝ }
 {
     let mut p = [0i64; 20];
     let mut l = 0;
     while l < m {
-        let x = delay(&b, &q, &p, l);
+        let x = delay(b, q, &p, l);
         if x < -BOUND {
             return no_delays();
         }
@@ -74,82 +75,68 @@ pub fn solve(m: usize, b: [i64; 20], q: [i64; 20]) -> Solved
     Solved { ok: true, p }
 }
 
-// What a set's cells need that no method changes: the chain ladder of counts and of paid, and the
-// delays. A refusal of 0 says that questions 9 to 12 got a yes; beside another stand zeros.
-pub struct Prepared {
-    pub refusal: u64,
-    pub counts: Development,
-    pub paid: Development,
-    pub p: [i64; 20],
-}
-
-// A refusal, with zeros beside it.
-fn not_prepared(number: u64) -> Prepared
-    ensures { λ r. ⌜ r ≡ unprepared number ⌝ }
+// What a set's cells need that no method changes: questions 9 to 12; of counts and of paid the
+// latest sums, C(i,m-i) at place i - 1, and the cumulative shares, g(j) at place j; and the delays,
+// p(l) at place l, which a refusal leaves as they were.
+pub fn prepare(
+    set: &[i64; 1200],
+    m: usize,
+    count_latest: &mut [i64; 20],
+    count_g: &mut [i64; 20],
+    paid_latest: &mut [i64; 20],
+    paid_g: &mut [i64; 20],
+    p: &mut [i64; 20],
+) -> u64
+    requires { ⌜ Amounts m (10 ^ 7) (triangleIn 0 (now set)) × Amounts m (10 ^ 10) (triangleIn 1 (now set)) ⌝ }
+    requires { ⌜ (now «count_latest» ≡ zeros 20) × (now «count_g» ≡ zeros 20) × (now «paid_latest» ≡ zeros 20) × (now «paid_g» ≡ zeros 20) ⌝ }
+    ensures { λ r. ⌜ Prepared m (now (set .entry)) r (now («count_latest» .exit)) (now («count_g» .exit)) (now («paid_latest» .exit)) (now («paid_g» .exit)) (now (p .entry)) (now (p .exit)) ⌝ }
 {
-    let none = [0i64; 20];
-    let nothing = Development {
-        latest: none,
-        g: none,
-        shares: none,
-        ultimates: none,
-    };
-    Prepared {
-        refusal: number,
-        counts: nothing,
-        paid: nothing,
-        p: none,
+    let refusal = chain_ladder::develop(set, m, count_latest, count_g, paid_latest, paid_g);
+    if refusal != 0 {
+        return refusal;
     }
-}
-
-// Questions 9 to 12 of counts and paid, their chain ladder and their delays.
-pub fn prepare<'a>(counts: &'a [i64; 400], paid: &'a [i64; 400], m: usize) -> Prepared
-    requires { ⌜ Amounts m (10 ^ 7) (now counts) × Amounts m (10 ^ 10) (now paid) ⌝ }
-    ensures { λ r. ⌜ r ≡ prepared m (now (counts .entry)) (now (paid .entry)) ⌝ }
-{
-    let d = chain_ladder::develop(counts, paid, m);
-    if d.refusal != 0 {
-        return not_prepared(d.refusal);
-    }
-    let b = d.counts.shares;
-    let q = d.paid.shares;
-    let solved = solve(m, b, q);
+    let b = shares_of(count_g, m);
+    let q = shares_of(paid_g, m);
+    let solved = solve(m, &b, &q);
     if !solved.ok {
-        return not_prepared(12);
+        return 12;
     }
-    let counts = d.counts;
-    let paid = d.paid;
-    let p = solved.p;
-    Prepared {
-        refusal: 0,
-        counts,
-        paid,
-        p,
-    }
+    let list = solved.p;
+    *p = list;
+    0
 }
 
-// A refusal, with zeros beside it.
-fn refused(number: u64) -> model::DelaysAnswer
-    ensures { λ r. ⌜ r ≡ refusedDelays number ⌝ }
+// The delays of a file, written into a lent list: questions 1 to 5 and 9 to 12. A refusal leaves
+// the list as it was.
+pub fn delays_into(file: &[u8], m: usize, p: &mut [i64; 20]) -> u64
+    ensures { λ r. ⌜ r ≡ delaysAnswer m (now (file .entry)) .refusal ⌝ }
+    ensures { λ r. ⌜ now (p .exit) ≡ ifAccepted r (delaysAnswer m (now (file .entry)) .p) (now (p .entry)) ⌝ }
 {
-    model::DelaysAnswer {
-        refusal: number,
-        p: [0i64; 20],
+    let mut set = [0i64; 1200];
+    let refusal = triangles::read_cells(file, m, &mut set);
+    if refusal != 0 {
+        return refusal;
     }
+    let mut count_latest = [0i64; 20];
+    let mut count_g = [0i64; 20];
+    let mut paid_latest = [0i64; 20];
+    let mut paid_g = [0i64; 20];
+    prepare(
+        &set,
+        m,
+        &mut count_latest,
+        &mut count_g,
+        &mut paid_latest,
+        &mut paid_g,
+        p,
+    )
 }
 
 // The delays of a file: questions 1 to 5 and 9 to 12.
 pub fn delays(file: &[u8], m: usize) -> model::DelaysAnswer
     ensures { λ r. ⌜ r ≡ delaysAnswer m (now (file .entry)) ⌝ }
 {
-    let read = triangles::read_set(file, m);
-    if read.refusal != 0 {
-        return refused(read.refusal);
-    }
-    let ready = prepare(&read.set.counts, &read.set.paid, m);
-    if ready.refusal != 0 {
-        return refused(ready.refusal);
-    }
-    let p = ready.p;
-    model::DelaysAnswer { refusal: 0, p }
+    let mut p = [0i64; 20];
+    let refusal = delays_into(file, m, &mut p);
+    model::DelaysAnswer { refusal, p }
 }

@@ -1,26 +1,26 @@
--- Laws of the forecast of a file: its refusal question by question, and its whole contract, demand
--- 3 among it, from the forecast of the set. Assumes nothing.
-use mathlib.Core.Path.{_≡_, refl, sym, _∙_, ap}
+-- Laws of the forecast of a file: its refusal question by question, and its whole contract from the
+-- forecast of the set. Assumes nothing.
+use mathlib.Core.Path.{_≡_, refl, sym, _∙_}
 use mathlib.Core.Bool.{true, false}
 use mathlib.Core.List.{List}
 use Prim.Native.Nat.{ℕ, _≤_, _<_}
 use borrow.Author.Tests.{le-leb, lt-leb, leb-true}
+use lib.Dec.{eqb}
 use lib.IntN.{ℤ}
 use lib.ListN.{length}
 use Rattle.model.specs.Records.{setOf, hasIncurred}
 use Rattle.model.specs.Delays.{delaysOf}
-use Rattle.model.specs.Cells.{size, outputFrom}
+use Rattle.model.specs.Cells.{size}
+use Rattle.model.specs.RowBases.{leftovers}
 use Rattle.model.specs.PaidReserve.{NearReserves}
 use Rattle.model.specs.Questions.{q6, q7, ofForecast}
-use Rattle.model.specs.Calls.{readRefusal, refusedForecast, forecastRefusal, forecastAnswer, forecastOutput, Forecasted}
+use Rattle.model.specs.Calls.{ifAccepted, zeros, readRefusal, forecastRefusal, forecastAnswer, forecastOutput, Forecasted}
 use Rattle.model.specs.CallsLaws as CallsLaws
-use Rattle.model.specs.CallsLaws.{if-refused, number-of}
+use Rattle.model.specs.CallsLaws.{if-refused, number-of, as-answered}
+use Rattle.model.specs.Tests.{by-test}
 use Rattle.model.specs.declared.TriangleSet.{TriangleSet}
 use Rattle.model.specs.declared.ForecastAnswer.{ForecastAnswer}
-use Rattle.chain_ladder.specs.Accepted.{valid-set}
-use Rattle.paid_reserve.specs.Demand3.{demand-3}
-use Rattle.forecast.specs.SetForecast.{setRefusal, setAnswer, setOutput}
-use Rattle.forecast.specs.SetForecastLaws.{set-so, set-shared}
+use Rattle.forecast.specs.SetForecast.{Answered, setRefusal}
 
 module _ (m : ℕ) (f : List ℕ) (method basis : ℕ) (before : List ℤ) where
   abbrev s : TriangleSet
@@ -58,30 +58,42 @@ module _ (m : ℕ) (f : List ℕ) (method basis : ℕ) (before : List ℤ) where
       let a = CallsLaws.settings-so m f method basis 6 (q7 m (length before)) (ofForecast m s (delaysOf m s) method) z in
       (a .0, a .1, leb-true (size m) (length before) (a .2), a .3)
 
-  -- ---- the contract: a refusal leaves the output as it was
-  pub refused : (n : ℕ) → (n ≡ 0 → ⊥) → refusal ≡ n → Forecasted m f method basis before before (refusedForecast n)
-  unfolding forecastAnswer forecastOutput
-  refused n o e =
-      let no : refusal ≡ 0 → ⊥ = λ z. o (sym e ∙ z) in
-      record {
-        result = sym (if-refused _ _ _ no ∙ ap refusedForecast e);
-        output = sym (if-refused _ _ _ no);
-        reserve = λ z. absurd (o z);
-      }
+  -- ---- the contract, over the refusal number n, the leftovers before and after, and the output
+  abbrev answer : ForecastAnswer
+  answer = forecastAnswer m f method basis (length before)
 
-  -- what the set's forecast answers and writes is the file's; and demand 3
-  pub forecasted : readRefusal m f ≡ 0 → six → size m ≤ length before → (a : ForecastAnswer) (out : List ℤ)
-      → a ≡ setAnswer m s method → out ≡ setOutput m s method basis before → Forecasted m f method basis before out a
-  unfolding forecastAnswer forecastOutput
-  forecasted read ok room a out a-is out-is = record {
-    result = a-is ∙ rw (by-set read ok room);
-    output = out-is ∙ rw (by-set read ok room);
-    reserve = near;
-  }
-    where
-      near : a .refusal ≡ 0 → method ≡ 0 → basis ≡ 1 → NearReserves m (s .paid) out
-      near z dcl estimated =
-          let number = ap (λ (x : ForecastAnswer). x .refusal) a-is ∙ number-of (setRefusal m s method) _ _ (λ (x : ForecastAnswer). x .refusal) refl refl in
-          let accepted : setRefusal m s method ≡ 0 = sym number ∙ z in
-          let plain : out ≡ outputFrom m s (delaysOf m s) 0 1 before = out-is ∙ rw (accepted, dcl, estimated) in
-          rw plain (demand-3 m s before (set-shared m s method (valid-set m f read) (set-so m s method accepted .0)))
+  abbrev pub Into : ℕ → List ℤ → List ℤ → List ℤ → Type 0
+  Into n left lefts after =
+      (n ≡ answer .refusal)
+      × ((lefts ≡ ifAccepted n (answer .leftovers) left)
+      × ((after ≡ forecastOutput m f method basis before) × (n ≡ 0 → method ≡ 0 → basis ≡ 1 → NearReserves m (s .paid) after)))
+
+  number-is : answer .refusal ≡ refusal
+  number-is = CallsLaws.forecast-refusal m f method basis (length before) refl
+
+  -- a refusal leaves both as they were
+  pub refused : {n : ℕ} {left : List ℤ} → (n ≡ 0 → ⊥) → refusal ≡ n → Into n left left before
+  unfolding forecastOutput
+  refused o e = (sym (number-is ∙ e), (sym (if-refused _ _ _ o), (sym (if-refused _ _ _ (λ z. o (sym e ∙ z))), λ z. absurd (o z))))
+
+  lefts-beside : {n : ℕ} (left : List ℤ) → n ≡ refusal → ifAccepted n (leftovers m s method) left ≡ ifAccepted n (answer .leftovers) left
+  unfolding forecastAnswer
+  lefts-beside left e = rw e (by-test (eqb refusal 0) (λ t. rw t) (λ t. rw t))
+
+  -- what the forecast of the file's set t answers and writes is the file's
+  pub forecasted : readRefusal m f ≡ 0 → six → size m ≤ length before → {t : TriangleSet} → t ≡ s → {n : ℕ} {left lefts after : List ℤ}
+      → Answered (setRefusal m t method) m t (delaysOf m t) method basis n left lefts before after
+      → (n ≡ 0 → method ≡ 0 → basis ≡ 1 → NearReserves m (t .paid) after) → Into n left lefts after
+  unfolding forecastOutput
+  forecasted read ok room {t} is {n} {left} {lefts} {after} made near =
+      let a : Answered (setRefusal m s method) m s (delaysOf m s) method basis n left lefts before after = rw is at made in
+      let e : n ≡ refusal = a .refusal ∙ sym (by-set read ok room) in
+      (e ∙ sym number-is, (a .leftovers-are ∙ lefts-beside left e, (a .output ∙ rw e, rw is at near)))
+
+  -- with zeros for leftovers it is the answer by value
+  whole : {n : ℕ} → n ≡ answer .refusal → ifAccepted n (answer .leftovers) (zeros 20) ≡ answer .leftovers
+  unfolding forecastAnswer
+  whole e = rw (e ∙ number-of refusal _ _ (λ (x : ForecastAnswer). x .refusal) refl refl) (as-answered refusal _ _ (λ (x : ForecastAnswer). x .leftovers) (zeros 20) refl)
+
+  pub by-value : {n : ℕ} {lefts after : List ℤ} → Into n (zeros 20) lefts after → Forecasted m f method basis before after (record { refusal = n; leftovers = lefts })
+  by-value e = record { result = rw (e .1 .0 ∙ whole (e .0), e .0); output = e .1 .1 .0; reserve = e .1 .1 .1 }

@@ -1,7 +1,7 @@
 -- Laws of the forecast of a set: what is prepared gives the row bases and the cells what they ask,
 -- and these give the answer. Assumes nothing.
 use mathlib.Core.Path.{_≡_, refl, sym, _∙_, ap}
-use mathlib.Core.Bool.{true}
+use mathlib.Core.Bool.{Bool, true}
 use mathlib.Core.List.{List, _++_}
 use Prim.Native.Nat.{ℕ, suc, _-_, _*_, _^_, _≤_, _<_}
 use native.Mathlib.Omega.{arith}
@@ -9,46 +9,52 @@ use borrow.Author.Tests.{ltb-true, ltb-false}
 use lib.Dec.{ltb}
 use lib.IntN.{ℤ, pos, negℤ, natAbs}
 use Rattle.integers.specs.Order.{natAbs-≤}
-use Rattle.model.specs.Lists.{at}
+use Rattle.model.specs.Lists.{at, listed}
 use Rattle.model.specs.ListsLaws.{getD-listed, every-at}
 use Rattle.model.specs.Overlay.{overlay}
 use Rattle.model.specs.Shares.{gList, bList}
 use Rattle.model.specs.Delays.{delays, delaysOf}
 use Rattle.model.specs.RowBases.{rowBase}
-use Rattle.model.specs.Cells.{sList, outputFrom}
+use Rattle.model.specs.Cells.{sList, rbns, ibnr, outputFrom}
+use Rattle.model.specs.PaidReserve.{NearReserves}
+use Rattle.paid_reserve.specs.Demand3.{demand-3}
 use Rattle.model.specs.Questions.{within, q6, q12, ofShares, ofDelays, ofMethod, ofForecast}
 use Rattle.model.specs.QuestionsLaws.{within-so, numbered, stage-no, stage-yes, stages-so}
 use Rattle.model.specs.Tests.{by-test}
 use Rattle.model.specs.declared.TriangleSet.{TriangleSet}
-use Rattle.chain_ladder.specs.Developed.{development}
 use Rattle.chain_ladder.specs.DevelopedLaws.{Shared, shared-set, counts-rows, counts-sound}
 use Rattle.chain_ladder.specs.Sums.{latests}
 use Rattle.chain_ladder.specs.SumsLaws as SumsLaws
-use Rattle.chain_ladder.specs.Valid.{Valid}
-use Rattle.delays.specs.declared.Prepared.{Prepared}
+use Rattle.chain_ladder.specs.Ladder.{difference}
+use Rattle.chain_ladder.specs.LadderLaws.{ladder-shares}
+use Rattle.model.specs.Lent.{lentSet, triangleIn}
+use Rattle.model.specs.CallsLaws.{if-accepted}
+use Rattle.chain_ladder.specs.Valid.{Valid, counts-of, paid-of, incurred-small}
 use Rattle.delays.specs.DelaysLaws.{delay-past}
-use Rattle.delays.specs.Prepared.{preparedRefusal, prepared}
-use Rattle.delays.specs.PreparedLaws.{prepared-so, prepared-yes, prepared-refusal}
-use Rattle.row_bases.specs.Method.{Asked, Sized, rowBases, bothBases, methodBases, incurredUnder, basesFrom}
-use Rattle.row_bases.specs.MethodLaws.{method-asked, sized, from-parts, accepted-with, bases-refusal, bases-small}
-use Rattle.row_bases.specs.declared.MethodBases.{MethodBases}
-use Rattle.cells.specs.CellOf.{yearsEntries}
+use Rattle.delays.specs.Prepared.{preparedRefusal, Prepared}
+use Rattle.delays.specs.PreparedLaws.{prepared-so}
+use Rattle.row_bases.specs.Method.{Asked, Based, rowBases}
+use Rattle.row_bases.specs.MethodLaws.{method-asked, six-known, six-incurred, bases-small}
+use Rattle.cells.specs.CellOf.{sumsFrom, cellOf, yearsEntries}
 use Rattle.cells.specs.Weights.{Weights, Delays}
 use Rattle.cells.specs.WeightsLaws.{weights-are}
 use Rattle.cells.specs.Ready.{Ready, yearWeights}
 use Rattle.cells.specs.ReadyLaws as ReadyLaws
 use Rattle.cells.specs.ReadyLaws.{g-at, latest-at, shares-fit}
-use Rattle.cells.specs.YearsLaws.{output-is}
-use Rattle.forecast.specs.SetForecast.{methodRefusal, setRefusal, PreparedOf}
+use Rattle.cells.specs.YearsLaws.{cell-is, output-is}
+use Rattle.forecast.specs.SetForecast.{Answered, methodRefusal, setRefusal, InRange, Given}
 
 -- ---- a set that passed questions 1, 5, 6 and 9 to 14, with delays p in range
-module _ (m : ℕ) (s : TriangleSet) (method : ℕ) (asked : Asked m s method) (passed : methodRefusal m s method ≡ 0) (p : List ℤ) (small : Delays p) where
+module _ (m : ℕ) (s : TriangleSet) (method : ℕ) (asked : Asked m (s .counts) (s .paid) (s .incurred) method) (passed : methodRefusal m s method ≡ 0) (p : List ℤ) (small : Delays p) where
   abbrev few : m ≤ 20
   few = asked .shared .counts .small .few
 
   at-bases : (k : ℕ) → k < m → at (rowBases m s method) k ≡ rowBase m s method (suc k)
   unfolding rowBases
   at-bases k h = getD-listed 20 m (λ k. rowBase m s method (suc k)) (pos 0) k (pos 0) (omega (arith, few)) h
+
+  base-at : (i : ℕ) → 1 ≤ i → i ≤ m → at (rowBases m s method) (i - 1) ≡ rowBase m s method i
+  base-at i h l = let e : suc (i - 1) ≡ i = omega arith in at-bases (i - 1) (omega arith) ∙ ap (rowBase m s method) e
 
   ready : Ready m (s .counts) (bList m (s .counts)) (gList m (s .counts)) (latests m (s .counts)) (rowBases m s method) p
   unfolding latests methodRefusal
@@ -76,8 +82,12 @@ module _ (m : ℕ) (s : TriangleSet) (method : ℕ) (asked : Asked m s method) (
 
     written : (before : List ℤ) → overlay before 0 (yearsEntries m (rowBases m s method) weights (bList m (s .counts)) p m) ≡ outputFrom m s p method basis before
     written before =
-        output-is m (let l = asked .shared .counts .least in omega arith) few s p (rowBases m s method) weights method basis
-        (λ i h l. (let e : suc (i - 1) ≡ i = omega arith in at-bases (i - 1) (omega arith) ∙ ap (rowBase m s method) e)) year-weights before
+        output-is m (let l = asked .shared .counts .least in omega arith) few s p (rowBases m s method) weights method basis base-at year-weights before
+
+    -- a cell
+    set-cell : (i j : ℕ) → 1 ≤ i → i ≤ m → j < 39 → cellOf m (at (rowBases m s method) (i - 1)) (weights i) p (sumsFrom m (m - (i - 1)) (bList m (s .counts)) p) i j ≡ record { rbns = rbns m s p method basis i j; ibnr = ibnr m s p method i j }
+    set-cell =
+        cell-is m (let l = asked .shared .counts .least in omega arith) few s p (rowBases m s method) weights method basis base-at year-weights
 
     -- the weights, shares and bases that the cells are made of
     pub set-weights : (i : ℕ) → 1 ≤ i → i ≤ m → Weights (sList m s basis i)
@@ -90,35 +100,32 @@ module _ (m : ℕ) (s : TriangleSet) (method : ℕ) (asked : Asked m s method) (
   unfolding methodRefusal
   set-bases i h l = let e : suc (i - 1) ≡ i = omega arith in rw e at (bases-small m s method asked passed (i - 1) (omega arith))
 
--- ---- from what is prepared, as the code takes it: y is what the row bases answered
-module _ (m : ℕ) (s : TriangleSet) (method : ℕ) (x : Prepared) (counts incurred : List ℤ) (of : PreparedOf m s method x counts incurred) where
-  pub bases-sized : Sized m method (x .paid) incurred
-  bases-sized = rw (of .paid-are, of .incurred-lent) (sized m s method (of .asked))
+-- ---- from what is prepared, as the code takes it: v is what the row bases made, b the shares
+module _ {m : ℕ} {set : List ℤ} {method : ℕ} {cl cg dl dg p : List ℤ} (given : Given m set method cl cg dl dg p) (has : Bool)
+    {n : ℕ} {v left lefts : List ℤ} (based : Based m (lentSet has set) method n v left lefts) (z : n ≡ 0)
+    {b : List ℤ} (b-is : b ≡ listed 20 m (difference cg) (pos 0)) where
+  abbrev given-set : TriangleSet
+  given-set = lentSet has set
 
-  bases-are : basesFrom m method (x .paid) (incurredUnder m incurred method) ≡ methodBases m s method
-  bases-are = rw (of .paid-are, of .incurred-lent) (from-parts m s method (of .asked))
+  passes : methodRefusal m given-set method ≡ 0
+  unfolding methodRefusal
+  passes = sym (based .refusal) ∙ z
 
-  module _ (y : MethodBases) (y-is : y ≡ basesFrom m method (x .paid) (incurredUnder m incurred method)) where
-    pub number-is : y .refusal ≡ methodRefusal m s method
-    unfolding methodRefusal
-    number-is = bases-refusal m s method (y-is ∙ bases-are)
+  b-list : b ≡ bList m (triangleIn 0 set)
+  b-list = b-is ∙ ladder-shares (given .counts) (given .asked .shared .counts .small .few)
 
-    module _ (z : y .refusal ≡ 0) where
-      pub passes : methodRefusal m s method ≡ 0
-      passes = sym number-is ∙ z
+  pub years-ready : Ready m (triangleIn 0 set) b cg cl v p
+  years-ready = rw (b-list, given .counts .g-is, given .counts .latest-is, based .bases z) (ready m given-set method (given .asked) passes p (given .delays))
 
-      pub parts : y ≡ bothBases m s method
-      unfolding methodRefusal
-      parts = y-is ∙ bases-are ∙ accepted-with m s method passes
+  pub years-written : (basis : ℕ) (before : List ℤ)
+      → overlay before 0 (yearsEntries m v (yearWeights m (triangleIn 0 set) basis b cg cl) b p m) ≡ outputFrom m given-set p method basis before
+  years-written basis before =
+      rw (b-list, given .counts .g-is, given .counts .latest-is, based .bases z) (written m given-set method (given .asked) passes p (given .delays) basis before)
 
-      pub years-ready : Ready m counts (x .counts .shares) (x .counts .g) (x .counts .latest) (y .v) (x .p)
-      unfolding development
-      years-ready = rw (of .counts-lent, of .counts-are, parts) (ready m s method (of .asked) passes (x .p) (of .delays))
-
-      pub years-written : (basis : ℕ) (before : List ℤ)
-          → overlay before 0 (yearsEntries m (y .v) (yearWeights m counts basis (x .counts .shares) (x .counts .g) (x .counts .latest)) (x .counts .shares) (x .p) m) ≡ outputFrom m s (x .p) method basis before
-      unfolding development
-      years-written basis before = rw (of .counts-lent, of .counts-are, parts) (written m s method (of .asked) passes (x .p) (of .delays) basis before)
+  pub years-cell : (basis i j : ℕ) → 1 ≤ i → i ≤ m → j < 39
+      → cellOf m (at v (i - 1)) (yearWeights m (triangleIn 0 set) basis b cg cl i) p (sumsFrom m (m - (i - 1)) b p) i j ≡ record { rbns = rbns m given-set p method basis i j; ibnr = ibnr m given-set p method i j }
+  years-cell basis i j h l k =
+      rw (b-list, given .counts .g-is, given .counts .latest-is, based .bases z) (set-cell m given-set method (given .asked) passes p (given .delays) basis i j h l k)
 
 -- ---- from the set
 -- delays that pass question 12, and zeros behind them
@@ -156,31 +163,43 @@ module _ (m : ℕ) (s : TriangleSet) (method : ℕ) where
     set-delays z = delays-small m s (prepared-so m (s .counts) (s .paid) z .1)
 
     module _ (basis : ℕ) (six : q6 (s .«has_incurred») method basis ≡ true) where
-      pub set-asked : pair ≡ 0 → Asked m s method
+      pub set-asked : pair ≡ 0 → Asked m (s .counts) (s .paid) (s .incurred) method
       set-asked z = method-asked m s method basis valid (set-shared z) six
 
-      -- what `prepare` made of it
-      module _ (x : Prepared) (x-is : x ≡ prepared m (s .counts) (s .paid)) where
-        pub pair-is : x .refusal ≡ pair
-        pair-is = prepared-refusal m (s .counts) (s .paid) x-is
+-- what `prepare` made of a lent set
+module _ {m : ℕ} {set : List ℤ} {method : ℕ} (ok : InRange m set method) {n : ℕ} {cl cg dl dg before p : List ℤ}
+    (made : Prepared m set n cl cg dl dg before p) (z : n ≡ 0) where
+  pub lent-passed : preparedRefusal m (triangleIn 0 set) (triangleIn 1 set) ≡ 0
+  lent-passed = sym (made .refusal) ∙ z
 
-        module _ (z : x .refusal ≡ 0) where
-          pub pair-passed : pair ≡ 0
-          pair-passed = sym pair-is ∙ z
+  pub lent-shared : Shared m (triangleIn 0 set) (triangleIn 1 set)
+  lent-shared = record { counts = ok .counts; paid = ok .paid; asked = prepared-so m (triangleIn 0 set) (triangleIn 1 set) lent-passed .0 }
 
-          abbrev whole : x ≡ Rattle.delays.specs.Prepared.allPrepared m (s .counts) (s .paid)
-          whole = x-is ∙ prepared-yes m (s .counts) (s .paid) pair-passed
+  pub lent-delays : (has : Bool) → p ≡ delaysOf m (lentSet has set)
+  unfolding delaysOf
+  lent-delays has = made .delays-are ∙ if-accepted _ _ _ z
 
-          pub delays-are : x .p ≡ delaysOf m s
-          unfolding delaysOf
-          delays-are = ap (λ (y : Prepared). y .p) whole
+  pub is-given : Given m set method cl cg dl dg p
+  unfolding delaysOf
+  is-given = record {
+    asked = record { shared = lent-shared; known = ok .known; incurred = ok .incurred };
+    counts = made .counts z;
+    paid = made .paid z;
+    delays = rw (lent-delays true) (delays-small m (lentSet true set) (prepared-so m (triangleIn 0 set) (triangleIn 1 set) lent-passed .1));
+  }
 
-          pub is-prepared : PreparedOf m s method x (s .counts) (s .incurred)
-          is-prepared = record {
-            asked = set-asked pair-passed;
-            counts-lent = refl;
-            incurred-lent = refl;
-            counts-are = ap (λ (y : Prepared). y .counts) whole;
-            paid-are = ap (λ (y : Prepared). y .paid) whole;
-            delays = rw delays-are (set-delays pair-passed);
-          }
+-- demand 3, of a set that passed
+pub near : {number m : ℕ} {s : TriangleSet} {method basis n : ℕ} {left lefts before after : List ℤ} → Shared m (s .counts) (s .paid)
+    → Answered number m s (delaysOf m s) method basis n left lefts before after → n ≡ 0 → method ≡ 0 → basis ≡ 1 → NearReserves m (s .paid) after
+near {m = m} {s = s} {before = before} {after = after} h a z dcl estimated =
+    let plain : after ≡ outputFrom m s (delaysOf m s) 0 1 before = a .output ∙ rw (z, dcl, estimated) in
+    rw plain (demand-3 m s before h)
+
+-- a valid set and a method that question 6 knows
+pub in-range : (m : ℕ) (has : Bool) (set : List ℤ) (method basis : ℕ) → Valid m (lentSet has set) → q6 has method basis ≡ true → InRange m set method
+in-range m has set method basis valid six = record {
+  counts = counts-of m (lentSet has set) valid;
+  paid = paid-of m (lentSet has set) valid;
+  known = six-known has method basis six;
+  incurred = λ n. incurred-small m (lentSet has set) valid (six-incurred has method basis six n);
+}

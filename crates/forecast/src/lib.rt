@@ -4,10 +4,12 @@ mod set;
 use model::ForecastAnswer;
 pub use set::forecast_prepared;
 pub use set::forecast_set;
-use set::refused;
 ghost use mathlib.Core.Path.{_≡_};
 ghost use Rattle.model.specs.Questions.{q6};
-ghost use Rattle.model.specs.Calls.{Forecasted};
+ghost use Rattle.model.specs.Records.{setOf};
+ghost use Rattle.model.specs.PaidReserve.{NearReserves};
+ghost use Rattle.model.specs.Calls.{ifAccepted, forecastAnswer, forecastOutput, Forecasted};
+ghost use lib.ListN.{length};
 
 // Question 6.
 pub fn q6(has_incurred: bool, method: u64, basis: u64) -> bool
@@ -26,20 +28,42 @@ pub fn q6(has_incurred: bool, method: u64, basis: u64) -> bool
 }
 
 // The forecast of a file, by method (0 DCL, 1 BDCL, 2 IDCL) and basis (0 actual, 1 estimated
-// counts): questions 1 to 7 and 9 to 14. The output's first 2m(2m - 1) entries are the cells; a
-// refusal leaves it as it was.
+// counts), written into lent memory: questions 1 to 7 and 9 to 14. The output's first 2m(2m - 1)
+// entries are the cells, and the leftover of year i stands at place i - 1; a refusal leaves both as
+// they were.
+pub fn forecast_into(
+    file: &[u8],
+    m: usize,
+    method: u64,
+    basis: u64,
+    leftovers: &mut [i64; 20],
+    out: &mut [i64],
+) -> u64
+    ensures { λ r. ⌜ r ≡ forecastAnswer m (now (file .entry)) method basis (length (now (out .entry))) .refusal ⌝ }
+    ensures { λ r. ⌜ now (leftovers .exit) ≡ ifAccepted r (forecastAnswer m (now (file .entry)) method basis (length (now (out .entry))) .leftovers) (now (leftovers .entry)) ⌝ }
+    ensures { λ _. ⌜ now (out .exit) ≡ forecastOutput m (now (file .entry)) method basis (now (out .entry)) ⌝ }
+    ensures { λ r. ⌜ (r ≡ 0 → method ≡ 0 → basis ≡ 1 → NearReserves m (setOf m (now (file .entry)) .paid) (now (out .exit))) ⌝ }
+{
+    let mut set = [0i64; 1200];
+    let refusal = triangles::read_cells(file, m, &mut set);
+    if refusal != 0 {
+        return refusal;
+    }
+    let has_incurred = triangles::has_incurred(file, m);
+    if !q6(has_incurred, method, basis) {
+        return 6;
+    }
+    if out.len() < 2 * m * (2 * m - 1) {
+        return 7;
+    }
+    forecast_set(&set, m, method, basis, leftovers, out)
+}
+
+// The same forecast, the refusal and the leftovers handed back.
 pub fn forecast(file: &[u8], m: usize, method: u64, basis: u64, out: &mut [i64]) -> ForecastAnswer
     ensures { λ r. ⌜ Forecasted m (now (file .entry)) method basis (now (out .entry)) (now (out .exit)) r ⌝ }
 {
-    let read = triangles::read_set(file, m);
-    if read.refusal != 0 {
-        return refused(read.refusal);
-    }
-    if !q6(read.set.has_incurred, method, basis) {
-        return refused(6);
-    }
-    if out.len() < 2 * m * (2 * m - 1) {
-        return refused(7);
-    }
-    forecast_set(read.set, m, method, basis, out)
+    let mut leftovers = [0i64; 20];
+    let refusal = forecast_into(file, m, method, basis, &mut leftovers, out);
+    ForecastAnswer { refusal, leftovers }
 }

@@ -1,76 +1,87 @@
 // The forecast of a set: questions 9 to 14.
 use cells::years::cell_forecast;
-use delays::Prepared;
-use model::ForecastAnswer;
-use model::TriangleSet;
+use chain_ladder::ladder::shares_of;
 ghost use mathlib.Core.Path.{_≡_};
-ghost use mathlib.Core.Bool.{true};
+ghost use mathlib.Core.Bool.{Bool};
 ghost use Prim.Native.Nat.{_≤_};
 ghost use lib.ListN.{length};
+ghost use Rattle.model.specs.Delays.{delaysOf};
 ghost use Rattle.model.specs.Cells.{size};
-ghost use Rattle.model.specs.Questions.{q6};
-ghost use Rattle.model.specs.Calls.{refusedForecast};
-ghost use Rattle.chain_ladder.specs.Valid.{Valid};
-ghost use Rattle.forecast.specs.SetForecast.{SomePrepared, FromPrepared, setAnswer, setOutput};
-
-// A refusal, with zeros beside it.
-pub fn refused(number: u64) -> ForecastAnswer
-    ensures { λ r. ⌜ r ≡ refusedForecast number ⌝ }
-{
-    ForecastAnswer {
-        refusal: number,
-        leftovers: [0i64; 20],
-    }
-}
+ghost use Rattle.model.specs.PaidReserve.{NearReserves};
+ghost use Rattle.model.specs.Lent.{lentSet, triangleIn};
+ghost use Rattle.forecast.specs.SetForecast.{InRange, Given, Answered, methodRefusal, setRefusal};
 
 // The forecast of a set from what is prepared of it: questions 13 and 14, the leftovers, and the
 // cells at the front of the output. Several methods can share what is prepared, and its delays may
-// come from elsewhere. Of the set's triangles only counts and incurred are looked at.
+// come from elsewhere. A refusal leaves the lent memory as it was.
 pub fn forecast_prepared<'a>(
-    counts: &'a [i64; 400],
-    incurred: &'a [i64; 400],
-    ready: Prepared,
+    set: &'a [i64; 1200],
     m: usize,
     method: u64,
     basis: u64,
+    count_latest: &'a [i64; 20],
+    count_g: &'a [i64; 20],
+    paid_latest: &'a [i64; 20],
+    paid_g: &'a [i64; 20],
+    p: [i64; 20],
+    leftovers: &mut [i64; 20],
     out: &mut [i64],
-) -> ForecastAnswer
-    requires { ⌜ SomePrepared m method ready (now counts) (now incurred) × (size m ≤ length (now out)) ⌝ }
-    ensures { λ r. ⌜ FromPrepared m method basis ready (now (counts .entry)) (now (incurred .entry)) (now (out .entry)) (now (out .exit)) r ⌝ }
+) -> u64
+    requires { ⌜ Given m (now set) method (now «count_latest») (now «count_g») (now «paid_latest») (now «paid_g») p × (size m ≤ length (now out)) ⌝ }
+    ensures { λ r. ⌜ ((has : Bool) → let s = lentSet has (now (set .entry)) in Answered (methodRefusal m s method) m s p method basis r (now (leftovers .entry)) (now (leftovers .exit)) (now (out .entry)) (now (out .exit))) ⌝ }
 {
-    let paid = ready.paid;
-    let bases = row_bases::method_bases(paid, incurred, m, method);
-    if bases.refusal != 0 {
-        return refused(bases.refusal);
+    let mut v = [0i64; 20];
+    let refusal = row_bases::method_bases(set, m, method, paid_latest, paid_g, &mut v, leftovers);
+    if refusal != 0 {
+        return refusal;
     }
-    let shares = ready.counts.shares;
-    let g = ready.counts.g;
-    let latest = ready.counts.latest;
-    let v = bases.v;
-    let p = ready.p;
-    cell_forecast(out, m, basis, counts, shares, g, latest, v, p);
-    let leftovers = bases.leftovers;
-    ForecastAnswer {
-        refusal: 0,
-        leftovers,
-    }
+    let shares = shares_of(count_g, m);
+    cell_forecast(out, m, basis, set, &shares, count_g, count_latest, &v, p);
+    0
 }
 
 // The forecast of a set: questions 9 to 14, the leftovers, and the cells at the front of the
-// output.
+// output; demand 3 among its promises. A refusal leaves the lent memory as it was.
 pub fn forecast_set(
-    set: TriangleSet,
+    set: &[i64; 1200],
     m: usize,
     method: u64,
     basis: u64,
+    leftovers: &mut [i64; 20],
     out: &mut [i64],
-) -> ForecastAnswer
-    requires { ⌜ Valid m set × (q6 (set .«has_incurred») method basis ≡ true) × (size m ≤ length (now out)) ⌝ }
-    ensures { λ r. ⌜ (r ≡ setAnswer m set method) × (now (out .exit) ≡ setOutput m set method basis (now (out .entry))) ⌝ }
+) -> u64
+    requires { ⌜ InRange m (now set) method × (size m ≤ length (now out)) ⌝ }
+    ensures { λ r. ⌜ ((has : Bool) → let s = lentSet has (now (set .entry)) in Answered (setRefusal m s method) m s (delaysOf m s) method basis r (now (leftovers .entry)) (now (leftovers .exit)) (now (out .entry)) (now (out .exit))) ⌝ }
+    ensures { λ r. ⌜ (r ≡ 0 → method ≡ 0 → basis ≡ 1 → NearReserves m (triangleIn 1 (now (set .entry))) (now (out .exit))) ⌝ }
 {
-    let ready = delays::prepare(&set.counts, &set.paid, m);
-    if ready.refusal != 0 {
-        return refused(ready.refusal);
+    let mut count_latest = [0i64; 20];
+    let mut count_g = [0i64; 20];
+    let mut paid_latest = [0i64; 20];
+    let mut paid_g = [0i64; 20];
+    let mut p = [0i64; 20];
+    let refusal = delays::prepare(
+        set,
+        m,
+        &mut count_latest,
+        &mut count_g,
+        &mut paid_latest,
+        &mut paid_g,
+        &mut p,
+    );
+    if refusal != 0 {
+        return refusal;
     }
-    forecast_prepared(&set.counts, &set.incurred, ready, m, method, basis, out)
+    forecast_prepared(
+        set,
+        m,
+        method,
+        basis,
+        &count_latest,
+        &count_g,
+        &paid_latest,
+        &paid_g,
+        p,
+        leftovers,
+        out,
+    )
 }

@@ -6,12 +6,11 @@ use Prim.Native.Nat.{ℕ, suc}
 use native.Mathlib.Omega.{arith}
 use borrow.Author.Tests.{ne-eqb, eqb-true, le-leb}
 use lib.Dec.{eqb}
-use Rattle.model.specs.Records.{hasIncurred, setOf}
+use Rattle.model.specs.Records.{hasIncurred}
 use Rattle.model.specs.Questions.{Question, q6, firstNo, ofFile, ofRecords}
 use Rattle.model.specs.QuestionsLaws.{EachYes, numbered, each-yes, stage-no, stage-yes, stages-so}
-use Rattle.model.specs.Calls.{ifAccepted, callRefusal, readRefusal, readAnswer, forecastRefusal, forecastAnswer}
+use Rattle.model.specs.Calls.{ifAccepted, callRefusal, readRefusal, forecastRefusal, forecastAnswer}
 use Rattle.model.specs.Tests.{by-test}
-use Rattle.model.specs.declared.ReadAnswer.{ReadAnswer}
 use Rattle.model.specs.declared.ForecastAnswer.{ForecastAnswer}
 
 -- ---- what is handed back beside the refusal number n
@@ -25,6 +24,10 @@ module _ {A : Type 0} (n : ℕ) (yes no : A) where
   -- where each holds its own number, so does the answer
   pub number-of : (number : A → ℕ) → number yes ≡ 0 → number no ≡ n → number (ifAccepted n yes no) ≡ n
   number-of number y o = by-test (eqb n 0) (λ t. let z : n ≡ 0 = eqb-true n 0 t in rw t (y ∙ sym z)) (λ t. rw t o)
+
+-- what is written of an answer over what stands beside its refusal is the answer's
+pub as-answered : {A B : Type 0} (n : ℕ) (a b : A) (part : A → B) (x : B) → part b ≡ x → ifAccepted n (part (ifAccepted n a b)) x ≡ part (ifAccepted n a b)
+as-answered n a b part x e = by-test (eqb n 0) (λ t. rw t) (λ t. rw (t, e))
 
 -- ---- the questions of the file, then the call's own, then those of the set
 module _ (m : ℕ) (f : List ℕ) (own ofSet : List Question) where
@@ -88,17 +91,6 @@ module _ (m : ℕ) (f : List ℕ) (method basis k : ℕ) (x : Bool) (ofSet : Lis
       let a = all-passed m f own ofSet both-numbered z in
       let h : EachYes own = each-yes own both-numbered (a .1) in
       (a .0, h .0, h .1 .0, a .2)
-
--- ---- the reader
-pub read-refusal : (m : ℕ) (f : List ℕ) {r : ReadAnswer} → r ≡ readAnswer m f → r .refusal ≡ readRefusal m f
-unfolding readAnswer
-read-refusal m f e = ap (λ (x : ReadAnswer). x .refusal) e ∙ number-of (readRefusal m f) _ _ (λ (x : ReadAnswer). x .refusal) refl refl
-
-pub read-whole : (m : ℕ) (f : List ℕ) {r : ReadAnswer} → r ≡ readAnswer m f → r .refusal ≡ 0 → r .set ≡ setOf m f
-unfolding readAnswer
-read-whole m f e z =
-    let accepted = sym (read-refusal m f e) ∙ z in
-    ap (λ (x : ReadAnswer). x .set) (e ∙ if-accepted (readRefusal m f) _ _ accepted)
 
 -- ---- the forecast
 pub forecast-refusal : (m : ℕ) (f : List ℕ) (method basis room : ℕ) {a : ForecastAnswer} → a ≡ forecastAnswer m f method basis room → a .refusal ≡ forecastRefusal m f method basis room

@@ -44,10 +44,6 @@ module _ (m : ℕ) (f : List ℕ) where
       let l = cells-least m lo in
       (rw (eq-eqb (length f) (setLength m false) e), sym (ne-eqb (length f) (setLength m true) (λ z. omega arith)))
 
-  pub length-no : (length f ≡ setLength m false → ⊥) → (length f ≡ setLength m true → ⊥) → q2 m f ≡ false
-  unfolding q2
-  length-no a b = rw (ne-eqb (length f) (setLength m false) a, ne-eqb (length f) (setLength m true) b)
-
   pub length-so : q2 m f ≡ true → length f ≡ setLength m (hasIncurred m f)
   unfolding q2 hasIncurred
   length-so e =

@@ -21,6 +21,7 @@ pub mod QuestionsLaws
 pub mod Lengths
 pub mod Calls
 pub mod CallsLaws
+pub mod Lent
 pub mod Agreement
 pub mod Examples
 pub mod Further

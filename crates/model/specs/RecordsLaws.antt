@@ -1,9 +1,9 @@
 -- Laws of Records. Assumes nothing.
 use mathlib.Core.Path.{_≡_, _∙_}
-use mathlib.Core.Bool.{true, false, cond, and-false}
-use Prim.Native.Nat.{ℕ, _+_, _-_, _*_, _/_, _%_, _<_, _≤_}
+use mathlib.Core.Bool.{true, cond}
+use Prim.Native.Nat.{ℕ, _+_, _-_, _*_, _/_, _%_, _≤_}
 use native.Mathlib.Omega.{arith}
-use borrow.Author.Tests.{le-leb, lt-leb, leb-true}
+use borrow.Author.Tests.{le-leb, leb-true}
 use lib.Dec.{leb}
 use lib.IntN.{ℤ, pos}
 use Rattle.model.specs.ListsLaws.{getD-tabulate, and-left, and-right}
@@ -14,9 +14,6 @@ inside-yes m i j h l = rw (le-leb 1 i h, le-leb (i + j) m l)
 
 pub inside-so : (m i j : ℕ) → inside m i j ≡ true → (1 ≤ i) × (i + j ≤ m)
 inside-so m i j e = (leb-true 1 i (and-left (leb 1 i) (leb (i + j) m) e), leb-true (i + j) m (and-right (leb 1 i) (leb (i + j) m) e))
-
-pub inside-no : (m i j : ℕ) → m < i + j → inside m i j ≡ false
-inside-no m i j l = rw (lt-leb (i + j) m l, and-false (leb 1 i))
 
 -- a cell of a triangle that is made cell by cell
 pub cell-triangle : (m : ℕ) (v : ℕ → ℕ → ℤ) (i j : ℕ) → m ≤ 20 → 1 ≤ i → i + j ≤ m → cell (triangle m v) i j ≡ v i j

@@ -1,6 +1,6 @@
 -- Laws of tests. Assumes nothing.
 use mathlib.Core.Path.{_≡_, refl, sym, _∙_}
-use mathlib.Core.Bool.{Bool, true, false, _||_, not}
+use mathlib.Core.Bool.{Bool, true, false, not}
 use borrow.Author.Tests.{not-true, not-false}
 
 -- a proof by cases on a test
@@ -20,10 +20,3 @@ refused {t} h e = sym e ∙ not-true t h
 
 pub passed : {t u : Bool} → not t ≡ false → t ≡ u → u ≡ true
 passed {t} h e = sym e ∙ not-false t h
-
--- a test that is asked only where b holds
-pub asked : (b x : Bool) → b ≡ true → (not b || x) ≡ x
-asked b x e = rw e
-
-pub not-asked : (b x : Bool) → b ≡ false → (not b || x) ≡ true
-not-asked b x e = rw e

@@ -55,6 +55,7 @@ module _ (m : ℕ) (lo : 2 ≤ m) (few : m ≤ 20) (s : TriangleSet) (before : L
     unfolding delaysOf
     near-solved = near-any (delaysOf m s) (solved b (bList m (s .paid)) m few b-pos)
 
--- ---- demand 3: of every set that passes questions 9 to 11, as its forecast under method 0, basis 1 is written
+-- ---- demand 3: of every set that passes questions 9 to 11, as its forecast under method 0,
+-- basis 1 is written
 pub demand-3 : (m : ℕ) (s : TriangleSet) (before : List ℤ) → Shared m (s .counts) (s .paid) → NearReserves m (s .paid) (outputFrom m s (delaysOf m s) 0 1 before)
 demand-3 m s before h = near-solved m (h .counts .least) (h .counts .small .few) s before (counts-sound h) (paid-sound h)

@@ -2,7 +2,7 @@
 -- latest paid sum c, and u1 and w1 of year 1.
 use Prim.Native.Nat.{ℕ, _*_, _^_, _≤_, _<_}
 use mathlib.Core.Path.{_≡_}
-use mathlib.Core.Bool.{_&&_, cond}
+use mathlib.Core.Bool.{Bool, true, _&&_, cond}
 use mathlib.Core.List.{List}
 use lib.Dec.{eqb, leb}
 use lib.IntN.{ℤ, pos, natAbs, _-ℤ_, _*ℤ_}
@@ -10,8 +10,6 @@ use Rattle.integers.specs.Parts.{_⩽_, _⋖_}
 use Rattle.model.specs.Lists.{at, listed, every}
 use Rattle.model.specs.Rounding.{r}
 use Rattle.model.specs.RowBases.{isZero}
-use Rattle.model.specs.Calls.{zeros}
-use Rattle.row_bases.specs.declared.bases.Bases.{Bases}
 
 -- V, by method: u; r(u1 × w / w1); r(u × (w - c) / (u - c)), or u where u - c is 0
 unfoldable pub baseFrom : ℕ → ℤ → ℤ → ℤ → ℤ → ℤ → ℤ
@@ -48,8 +46,7 @@ module _ (m method : ℕ) (u c w : List ℤ) where
   abbrev pub AllSizes : Type 0
   AllSizes = (k : ℕ) → k < m → Sizes method (at u 0) (at w 0) (at u k) (at w k) (at c k)
 
-  -- the bases, where each is within question 14's range
-  unfoldable pub basesOf : Bases
-  basesOf =
-      let ok = every m (λ k. leb (natAbs (baseAt k)) (2 * 10 ^ 14)) in
-      record { ok = ok; v = cond ok (listed 20 m baseAt (pos 0)) (zeros 20) }
+  -- whether each base is within question 14's range, and where each is, the list of them
+  pub record Bases (ok : Bool) (v : List ℤ) : Type 0 where
+    pub answer : ok ≡ every m (λ k. leb (natAbs (baseAt k)) (2 * 10 ^ 14))
+    pub listed-all : ok ≡ true → v ≡ listed 20 m baseAt (pos 0)

@@ -1,11 +1,11 @@
 -- Laws of Method: the bases and leftovers from the lists are the model's, and the questions 13 and
 -- 14 as the code asks them. Assumes nothing.
-use mathlib.Core.Path.{_≡_, refl, sym, _∙_, ap, ap₂}
+use mathlib.Core.Path.{_≡_, refl, sym, _∙_, ap}
 use mathlib.Core.Bool.{Bool, true, false, _&&_, false≢true}
 use mathlib.Core.List.{List, [], _∷_}
 use Prim.Native.Nat.{ℕ, zero, suc, _-_, _*_, _^_, _≤_, _<_}
 use native.Mathlib.Omega.{arith}
-use borrow.Author.Tests.{ne-eqb, eqb-true, eqb-false, le-leb, leb-true}
+use borrow.Author.Tests.{eqb-true, eqb-false, le-leb, leb-true}
 use lib.Dec.{eqb, leb}
 use lib.IntN.{ℤ, pos, negℤ, natAbs}
 use lib.ListN.{getD-replicate}
@@ -20,21 +20,16 @@ use Rattle.model.specs.RowBases.{U, W, R, R*, rowBase, leftover, leftovers}
 use Rattle.model.specs.Questions.{within, usesIncurred, firstNo, ofMethod, q6, q13, q14}
 use Rattle.model.specs.QuestionsLaws.{EachYes, numbered, each-yes, within-so, within-yes}
 use Rattle.model.specs.Calls.{zeros}
-use Rattle.model.specs.CallsLaws.{if-accepted, if-refused, number-of}
 use Rattle.model.specs.declared.TriangleSet.{TriangleSet}
 use Rattle.model.specs.Tests.{by-test, same-test}
-use Rattle.chain_ladder.specs.declared.Incurred.{Incurred}
-use Rattle.chain_ladder.specs.declared.Development.{Development}
-use Rattle.chain_ladder.specs.Developed.{development, incurredOf}
-use Rattle.chain_ladder.specs.DevelopedLaws.{Shared, paid-sound, paid-bounds, incurred-yes}
+use Rattle.chain_ladder.specs.DevelopedLaws.{Shared, paid-sound, paid-bounds}
 use Rattle.chain_ladder.specs.LadderLaws.{at-latests}
 use Rattle.chain_ladder.specs.Sums.{latests}
 use Rattle.chain_ladder.specs.SharesLaws.{latest-nonneg, at-ultimates}
 use Rattle.chain_ladder.specs.UltimatesLaws.{ultimate-nonneg, ultimate-small, latest-ultimate, ultimate-first, latest-first}
-use Rattle.chain_ladder.specs.Valid.{Valid, few, least, incurred-small}
-use Rattle.row_bases.specs.Bases.{Year, baseFrom, leftFrom, baseAt, leftAt, AllSizes, basesOf}
-use Rattle.row_bases.specs.Method.{Asked, Incurreds, Sized, rowBases, bothBases, methodBases, noBases, incurredUnder, basesFrom}
-use Rattle.row_bases.specs.declared.MethodBases.{MethodBases}
+use Rattle.chain_ladder.specs.Valid.{Valid, incurred-small}
+use Rattle.row_bases.specs.Bases.{Year, baseFrom, leftFrom, baseAt, leftAt, AllSizes, Bases}
+use Rattle.row_bases.specs.Method.{Asked, Incurreds, Under, rowBases}
 
 -- methods 1 and 2
 pub uses : (method : ℕ) → method ≤ 2 → (method ≡ 0 → ⊥) → usesIncurred method ≡ true
@@ -50,25 +45,30 @@ magnitude-within n z =
     (λ e. let h = natAbs-≤ {x = z} {n = n} .0 (leb-true (natAbs z) n e) in within-yes (negℤ (pos n)) (pos n) z (h .1) (h .0))
     (λ e. let h = within-so (negℤ (pos n)) (pos n) z e in le-leb (natAbs z) n (natAbs-≤ {x = z} {n = n} .1 (h .1, h .0)))
 
--- question 6 of a method, and questions 9 to 11
-pub method-asked : (m : ℕ) (s : TriangleSet) (method basis : ℕ) → Valid m s → Shared m (s .counts) (s .paid) → q6 (s .«has_incurred») method basis ≡ true → Asked m s method
-unfolding q6
-method-asked m s method basis valid shared e = record {
-  valid = valid;
-  shared = shared;
-  known = known;
-  hasIncurred = λ n. rw (uses method known n) at (and-right (leb method 2 && leb basis 1) _ e);
-}
-  where
-    known : method ≤ 2
-    known = leb-true method 2 (and-left _ _ (and-left _ _ e))
+-- question 6 of a method
+module _ (has : Bool) (method basis : ℕ) (six : q6 has method basis ≡ true) where
+  pub six-known : method ≤ 2
+  unfolding q6
+  six-known = leb-true method 2 (and-left _ _ (and-left _ _ six))
 
-module _ (m : ℕ) (s : TriangleSet) (method : ℕ) (asked : Asked m s method) where
+  pub six-incurred : (method ≡ 0 → ⊥) → has ≡ true
+  unfolding q6
+  six-incurred n = rw (uses method six-known n) at (and-right (leb method 2 && leb basis 1) _ six)
+
+-- and questions 9 to 11
+pub method-asked : (m : ℕ) (s : TriangleSet) (method basis : ℕ) → Valid m s → Shared m (s .counts) (s .paid) → q6 (s .«has_incurred») method basis ≡ true → Asked m (s .counts) (s .paid) (s .incurred) method
+method-asked m s method basis valid shared six = record {
+  shared = shared;
+  known = six-known (s .«has_incurred») method basis six;
+  incurred = λ n. incurred-small m s valid (six-incurred (s .«has_incurred») method basis six n);
+}
+
+module _ (m : ℕ) (s : TriangleSet) (method : ℕ) (asked : Asked m (s .counts) (s .paid) (s .incurred) method) where
   abbrev m-few : m ≤ 20
-  m-few = few m s (asked .valid)
+  m-few = asked .shared .counts .small .few
 
   abbrev m-least : 2 ≤ m
-  m-least = least m s (asked .valid)
+  m-least = asked .shared .counts .least
 
   abbrev u : List ℤ
   u = ultimates m (s .paid)
@@ -152,7 +152,7 @@ module _ (m : ℕ) (s : TriangleSet) (method : ℕ) (asked : Asked m s method) w
   pub with-incurred : (method ≡ 0 → ⊥) → q13 m (s .incurred) ≡ true → Incurreds m s method (ultimates m (s .incurred))
   unfolding q13
   with-incurred n e = record {
-    small = λ k h. rw (at-ultimates m (s .incurred) m-few k h) (ultimate-nonneg m t (suc k) (c-low k h) (g-pos k h), ultimate-small m t (incurred-small m s (asked .valid) (asked .hasIncurred n)) shares (suc k) (omega arith) (omega arith));
+    small = λ k h. rw (at-ultimates m (s .incurred) m-few k h) (ultimate-nonneg m t (suc k) (c-low k h) (g-pos k h), ultimate-small m t (asked .incurred n) shares (suc k) (omega arith) (omega arith));
     first = λ _. first-pos;
     are = λ _ k h. at-ultimates m (s .incurred) m-few k h;
   }
@@ -207,112 +207,51 @@ module _ (m : ℕ) (s : TriangleSet) (method : ℕ) where
     unfolding ofMethod firstNo
     both a b = rw (uses method known n, a, b)
 
-  refused-with : (k : ℕ) → asked-all ≡ suc k → methodBases m s method ≡ noBases (suc k)
-  unfolding methodBases
-  refused-with k e = if-refused _ _ _ (λ (z : asked-all ≡ 0). omega arith) ∙ ap noBases e
-
-  pub accepted-with : asked-all ≡ 0 → methodBases m s method ≡ bothBases m s method
-  unfolding methodBases
-  accepted-with e = if-accepted _ _ _ e
-
-  pub bases-refusal : {y : MethodBases} → y ≡ methodBases m s method → y .refusal ≡ asked-all
-  unfolding methodBases
-  bases-refusal e = ap (λ (x : MethodBases). x .refusal) e ∙ number-of _ _ _ (λ (x : MethodBases). x .refusal) refl refl
-
-  -- the ultimates of incurred that the method uses
-  under-none : method ≡ 0 → incurredUnder m (s .incurred) method ≡ record { ok = true; ultimates = zeros 20 }
-  unfolding incurredUnder
-  under-none q = rw q
-
-  under-some : (method ≡ 0 → ⊥) → incurredUnder m (s .incurred) method ≡ incurredOf m (s .incurred)
-  unfolding incurredUnder
-  under-some n = rw (ne-eqb method 0 n)
-
--- ---- as the code asks: x is what it has of incurred
-module _ (m : ℕ) (s : TriangleSet) (method : ℕ) (asked : Asked m s method) where
-  abbrev x : Incurred
-  x = incurredUnder m (s .incurred) method
-
+-- ---- as the code asks: ok and w are what it has of incurred
+module _ (m : ℕ) (s : TriangleSet) (method : ℕ) (asked : Asked m (s .counts) (s .paid) (s .incurred) method) {ok : Bool} {w : List ℤ} (under : Under m (s .incurred) method ok w) where
   -- method 0, or question 13
-  by-method : {P : Type 0} → (method ≡ 0 → x ≡ record { ok = true; ultimates = zeros 20 } → P) → ((method ≡ 0 → ⊥) → x ≡ incurredOf m (s .incurred) → P) → P
-  by-method f g =
-      by-test (eqb method 0) (λ e. let q : method ≡ 0 = eqb-true method 0 e in f q (under-none m s method q))
-      (λ e. let n : method ≡ 0 → ⊥ = eqb-false method 0 e in g n (under-some m s method n))
+  by-method : {P : Type 0} → (method ≡ 0 → P) → ((method ≡ 0 → ⊥) → P) → P
+  by-method f g = by-test (eqb method 0) (λ e. f (eqb-true method 0 e)) (λ e. g (eqb-false method 0 e))
 
-  -- the answer to question 13
-  ok-is : x ≡ incurredOf m (s .incurred) → x .ok ≡ q13 m (s .incurred)
-  unfolding incurredOf
-  ok-is e = ap (λ (y : Incurred). y .ok) e
-
-  have : x .ok ≡ true → Incurreds m s method (x .ultimates)
-  have t =
-      by-method (λ q e. rw (ap (λ (y : Incurred). y .ultimates) e) (no-incurred m s method asked q))
-      (λ n e. let a : q13 m (s .incurred) ≡ true = sym (ok-is e) ∙ t in rw (ap (λ (y : Incurred). y .ultimates) (e ∙ incurred-yes m (s .incurred) a)) (with-incurred m s method asked n a))
-
-  answer-13 : x .ok ≡ false → methodBases m s method ≡ noBases 13
+  pub answer-13 : ok ≡ false → firstNo (ofMethod m s method) ≡ 13
   answer-13 t =
-      by-method (λ q e. absurd (false≢true (sym t ∙ ap (λ (y : Incurred). y .ok) e)))
-      (λ n e. refused-with m s method 12 (no-13 m s method (asked .known) n (sym (ok-is e) ∙ t)))
+      by-method (λ q. absurd (false≢true (sym t ∙ under .unused q .0)))
+      (λ n. no-13 m s method (asked .known) n (sym (under .used n .answer) ∙ t))
 
-  module _ (t : x .ok ≡ true) where
-    abbrev passes : Bool
-    passes = every m (λ k. leb (natAbs (baseAt m method (ultimates m (s .paid)) (latests m (s .paid)) (x .ultimates) k)) (2 * 10 ^ 14))
+  module _ (t : ok ≡ true) where
+    have : Incurreds m s method w
+    have =
+        by-method (λ q. rw (under .unused q .1) (no-incurred m s method asked q))
+        (λ n. let y = under .used n in rw (y .ultimates t) (with-incurred m s method asked n (sym (y .answer) ∙ t)))
 
-    answer-14 : passes ≡ false → methodBases m s method ≡ noBases 14
-    answer-14 f =
-        by-method (λ q e. absurd (false≢true (sym f ∙ passed-14 m s method asked (x .ultimates) (have t) q)))
-        (λ n e. refused-with m s method 13 (no-14 m s method (asked .known) n (sym (ok-is e) ∙ t) (sym (asked-14 m s method asked (x .ultimates) (have t)) ∙ f)))
+    -- from the lists of paid
+    module _ {u c : List ℤ} (u-is : u ≡ ultimates m (s .paid)) (c-is : c ≡ latests m (s .paid)) where
+      pub all-sizes : AllSizes m method u c w
+      all-sizes = rw (u-is, c-is) (sizes m s method asked w have)
 
-    answer-yes : passes ≡ true → methodBases m s method ≡ bothBases m s method
-    answer-yes f =
-        by-method (λ q e. accepted-with m s method (none-asked m s method q))
-        (λ n e. accepted-with m s method (both m s method (asked .known) n (sym (ok-is e) ∙ t) (sym (asked-14 m s method asked (x .ultimates) (have t)) ∙ f)))
+      pub left-overs : listed 20 m (leftAt m method u c w) (pos 0) ≡ leftovers m s method
+      left-overs = rw (u-is, c-is) (lefts-are m s method asked w have)
 
--- ---- the lists from their parts
-module _ (m method : ℕ) (d : Development) (x : Incurred) where
-  pub from-13 : x .ok ≡ false → basesFrom m method d x ≡ noBases 13
-  unfolding basesFrom
-  from-13 e = rw e
+      module _ {in-range : Bool} {v : List ℤ} (bases : Bases m method u c w in-range v) where
+        of-set : Bases m method (ultimates m (s .paid)) (latests m (s .paid)) w in-range v
+        of-set = rw (u-is, c-is) at bases
 
-  module _ (has : x .ok ≡ true) where
-    pub from-14 : basesOf m method (d .ultimates) (d .latest) (x .ultimates) .ok ≡ false → basesFrom m method d x ≡ noBases 14
-    unfolding basesFrom
-    from-14 e = rw (has, e)
+        pub answer-14 : in-range ≡ false → firstNo (ofMethod m s method) ≡ 14
+        answer-14 f =
+            by-method (λ q. absurd (false≢true (sym f ∙ of-set .answer ∙ passed-14 m s method asked w have q)))
+            (λ n. no-14 m s method (asked .known) n (sym (under .used n .answer) ∙ t) (sym (asked-14 m s method asked w have) ∙ sym (of-set .answer) ∙ f))
 
-    pub from-yes : basesOf m method (d .ultimates) (d .latest) (x .ultimates) .ok ≡ true → basesFrom m method d x ≡ record { refusal = 0; v = basesOf m method (d .ultimates) (d .latest) (x .ultimates) .v; leftovers = listed 20 m (leftAt m method (d .ultimates) (d .latest) (x .ultimates)) (pos 0) }
-    unfolding basesFrom
-    from-yes e = rw (has, e)
+        module _ (yes : in-range ≡ true) where
+          pub answer-yes : firstNo (ofMethod m s method) ≡ 0
+          answer-yes =
+              by-method (λ q. none-asked m s method q)
+              (λ n. both m s method (asked .known) n (sym (under .used n .answer) ∙ t) (sym (asked-14 m s method asked w have) ∙ sym (of-set .answer) ∙ yes))
 
-module _ (m : ℕ) (s : TriangleSet) (method : ℕ) (asked : Asked m s method) where
-  abbrev xs : Incurred
-  xs = incurredUnder m (s .incurred) method
-
-  abbrev d : Development
-  d = development m (s .paid)
-
-  pub sized : Sized m method d (s .incurred)
-  unfolding development
-  sized = record {
-    some = (let l = m-least m s method asked in omega arith);
-    few = m-few m s method asked;
-    incurred = λ n. incurred-small m s (asked .valid) (asked .hasIncurred n);
-    years = λ has. sizes m s method asked (xs .ultimates) (have m s method asked has);
-  }
-
-  pub from-parts : basesFrom m method d xs ≡ methodBases m s method
-  unfolding development basesOf
-  from-parts =
-      by-test (xs .ok)
-      (λ has. by-test (basesOf m method (d .ultimates) (d .latest) (xs .ultimates) .ok)
-      (λ in-range.
-      from-yes m method d xs has in-range
-      ∙ ap₂ (λ (v l : List ℤ). record { refusal = 0; v = v; leftovers = l }) (rw in-range (bases-are m s method asked (xs .ultimates) (have m s method asked has))) (lefts-are m s method asked (xs .ultimates) (have m s method asked has))
-      ∙ sym (answer-yes m s method asked has in-range))
-      (λ out. from-14 m method d xs has out ∙ sym (answer-14 m s method asked has out)))
-      (λ no. from-13 m method d xs no ∙ sym (answer-13 m s method asked no))
+          pub row-bases-are : v ≡ rowBases m s method
+          row-bases-are = of-set .listed-all yes ∙ bases-are m s method asked w have
 
 -- ---- the bases of an accepted set are within question 14's range
-module _ (m : ℕ) (s : TriangleSet) (method : ℕ) (asked : Asked m s method) (accepted : firstNo (ofMethod m s method) ≡ 0) where
+module _ (m : ℕ) (s : TriangleSet) (method : ℕ) (asked : Asked m (s .counts) (s .paid) (s .incurred) method) (accepted : firstNo (ofMethod m s method) ≡ 0) where
   fourteen : (method ≡ 0 → ⊥) → q14 m s method ≡ true
   unfolding ofMethod numbered
   fourteen n =

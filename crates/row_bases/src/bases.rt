@@ -5,14 +5,8 @@ ghost use Prim.Native.Nat.{_*_, _^_, _≤_};
 ghost use Rattle.arithmetic.specs.Capped.{capped};
 ghost use lib.IntN.{pos};
 ghost use Rattle.model.specs.Lists.{listed};
-ghost use Rattle.row_bases.specs.Bases.{baseFrom, leftFrom, leftAt, Year, Sizes, AllSizes, basesOf};
-
-// Row bases, year i at place i - 1, where `ok` says that each is within question 14's range; else
-// zeros.
-pub struct Bases {
-    pub ok: bool,
-    pub v: [i64; 20],
-}
+ghost use Rattle.model.specs.Calls.{zeros};
+ghost use Rattle.row_bases.specs.Bases.{baseFrom, leftFrom, leftAt, Year, Sizes, AllSizes, Bases};
 
 // Question 14's limit.
 const LIMIT: u64 = 200000000000000;
@@ -49,31 +43,41 @@ fn leftover(method: u64, u: i64, w: i64, c: i64) -> i64
     0
 }
 
-// The row bases of years 1 to m, from the ultimates u of paid and w of incurred and the latest paid
-// sums c. It stops at the first outside question 14's range.
-pub fn row_bases(m: usize, method: u64, u: [i64; 20], c: [i64; 20], w: [i64; 20]) -> Bases
-    requires { ⌜ (1 ≤ m) × (m ≤ 20) × AllSizes m method u c w ⌝ }
-    ensures { λ r. ⌜ r ≡ basesOf m method u c w ⌝ }
+// The row bases of years 1 to m, year i at place i - 1, from the ultimates u of paid and w of
+// incurred and the latest paid sums c; whether each is within question 14's range. It stops at the
+// first that is not.
+pub fn row_bases<'a>(
+    m: usize,
+    method: u64,
+    u: &'a [i64; 20],
+    c: &'a [i64; 20],
+    w: &'a [i64; 20],
+    v: &mut [i64; 20],
+) -> bool
+    requires { ⌜ (1 ≤ m) × (m ≤ 20) × AllSizes m method (now u) (now c) (now w) × (now v ≡ zeros 20) ⌝ }
+    ensures { λ r. ⌜ Bases m method (now (u .entry)) (now (c .entry)) (now (w .entry)) r (now (v .exit)) ⌝ }
 {
-    let mut v = [0i64; 20];
     let mut k = 0;
     while k < m {
         let Capped::Within(base) = row_base(method, u[0], w[0], u[k], w[k], c[k]) else {
-            return Bases {
-                ok: false,
-                v: [0i64; 20],
-            };
+            return false;
         };
         v[k] = base;
         k += 1;
     }
-    Bases { ok: true, v }
+    true
 }
 
 // The leftovers of years 1 to m, year i at place i - 1.
-pub fn leftovers(m: usize, method: u64, u: [i64; 20], c: [i64; 20], w: [i64; 20]) -> [i64; 20]
-    requires { ⌜ (m ≤ 20) × AllSizes m method u c w ⌝ }
-    ensures { λ r. ⌜ r ≡ listed 20 m (leftAt m method u c w) (pos 0) ⌝ }
+pub fn leftovers<'a>(
+    m: usize,
+    method: u64,
+    u: &'a [i64; 20],
+    c: &'a [i64; 20],
+    w: &'a [i64; 20],
+) -> [i64; 20]
+    requires { ⌜ (m ≤ 20) × AllSizes m method (now u) (now c) (now w) ⌝ }
+    ensures { λ r. ⌜ r ≡ listed 20 m (leftAt m method (now (u .entry)) (now (c .entry)) (now (w .entry))) (pos 0) ⌝ }
 {
     let mut out = [0i64; 20];
     let mut k = 0;

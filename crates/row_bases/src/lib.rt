@@ -1,69 +1,52 @@
 // The row bases and leftovers of a set under a method (01, Row bases), and questions 13 and 14.
 mod bases;
 
-use bases::leftovers;
 use bases::row_bases;
-use chain_ladder::Development;
-use chain_ladder::Incurred;
+use chain_ladder::ladder::ultimates;
 ghost use mathlib.Core.Path.{_≡_};
+ghost use mathlib.Core.Bool.{Bool};
 ghost use Prim.Native.Nat.{_^_, _≤_};
+ghost use Rattle.model.specs.Calls.{zeros};
+ghost use Rattle.model.specs.Lent.{triangleIn, lentSet};
 ghost use Rattle.chain_ladder.specs.Sums.{Small};
-ghost use Rattle.row_bases.specs.Method.{Sized, noBases, incurredUnder, basesFrom};
+ghost use Rattle.chain_ladder.specs.Developed.{Ladder};
+ghost use Rattle.row_bases.specs.Method.{Asked, Under, Based};
 
-// V(i) and the leftover of year i, both at place i - 1. A refusal of 0 says that the questions got
-// a yes; beside another stand zeros.
-pub struct MethodBases {
-    pub refusal: u64,
-    pub v: [i64; 20],
-    pub leftovers: [i64; 20],
-}
-
-// A refusal, with zeros beside it.
-fn no_bases(number: u64) -> MethodBases
-    ensures { λ r. ⌜ r ≡ noBases number ⌝ }
-{
-    MethodBases {
-        refusal: number,
-        v: [0i64; 20],
-        leftovers: [0i64; 20],
-    }
-}
-
-// The ultimates of incurred, where the method uses them.
-fn incurred_under(incurred: &[i64; 400], m: usize, method: u64) -> Incurred
-    requires { ⌜ (1 ≤ m) × ((method ≡ 0 → ⊥) → Small m (10 ^ 10) (now incurred)) ⌝ }
-    ensures { λ r. ⌜ r ≡ incurredUnder m (now (incurred .entry)) method ⌝ }
+// Question 13 and the ultimates of incurred, where the method uses them.
+fn incurred_under(set: &[i64; 1200], m: usize, method: u64, w: &mut [i64; 20]) -> bool
+    requires { ⌜ (1 ≤ m) × ((method ≡ 0 → ⊥) → Small m (10 ^ 10) (triangleIn 2 (now set))) × (now w ≡ zeros 20) ⌝ }
+    ensures { λ r. ⌜ Under m (triangleIn 2 (now (set .entry))) method r (now (w .exit)) ⌝ }
 {
     if method == 0 {
-        return Incurred {
-            ok: true,
-            ultimates: [0i64; 20],
-        };
+        return true;
     }
-    chain_ladder::incurred_ultimates(incurred, m)
+    chain_ladder::incurred_ultimates(set, m, w)
 }
 
-// The row bases and leftovers of a set, from the chain ladder of its paid triangle and its
-// incurred triangle.
-pub fn method_bases(paid: Development, incurred: &[i64; 400], m: usize, method: u64) -> MethodBases
-    requires { ⌜ Sized m method paid (now incurred) ⌝ }
-    ensures { λ r. ⌜ r ≡ basesFrom m method paid (incurredUnder m (now (incurred .entry)) method) ⌝ }
+// Questions 13 and 14, and the row bases and leftovers of a set, V(i) and the leftover of year i at
+// place i - 1, from the latest sums and the cumulative shares of its paid triangle. A refusal
+// leaves the leftovers as they were.
+pub fn method_bases<'a>(
+    set: &'a [i64; 1200],
+    m: usize,
+    method: u64,
+    paid_latest: &'a [i64; 20],
+    paid_g: &'a [i64; 20],
+    v: &mut [i64; 20],
+    leftovers: &mut [i64; 20],
+) -> u64
+    requires { ⌜ Asked m (triangleIn 0 (now set)) (triangleIn 1 (now set)) (triangleIn 2 (now set)) method ⌝ }
+    requires { ⌜ Ladder m (triangleIn 1 (now set)) (now «paid_latest») (now «paid_g») × (now v ≡ zeros 20) ⌝ }
+    ensures { λ r. ⌜ ((has : Bool) → Based m (lentSet has (now (set .entry))) method r (now (v .exit)) (now (leftovers .entry)) (now (leftovers .exit))) ⌝ }
 {
-    let of_incurred = incurred_under(incurred, m, method);
-    if !of_incurred.ok {
-        return no_bases(13);
+    let mut w = [0i64; 20];
+    if !incurred_under(set, m, method, &mut w) {
+        return 13;
     }
-    let u = paid.ultimates;
-    let c = paid.latest;
-    let w = of_incurred.ultimates;
-    let bases = row_bases(m, method, u, c, w);
-    if !bases.ok {
-        return no_bases(14);
+    let u = ultimates(paid_latest, paid_g, m);
+    if !row_bases(m, method, &u, paid_latest, &w, v) {
+        return 14;
     }
-    let v = bases.v;
-    MethodBases {
-        refusal: 0,
-        v,
-        leftovers: leftovers(m, method, u, c, w),
-    }
+    *leftovers = bases::leftovers(m, method, &u, paid_latest, &w);
+    0
 }

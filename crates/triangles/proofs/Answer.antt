@@ -1,85 +1,70 @@
--- From the answers of the questions to `readAnswer`. Assumes nothing.
-use Prim.Native.Nat.{ℕ, suc, _+_, _*_, _/_, _<_}
+-- From the answers of the questions to `ReadInto`. Assumes nothing.
+use Prim.Native.Nat.{ℕ, suc, _*_}
 use native.Mathlib.Omega.{arith}
 use mathlib.Core.Path.{_≡_, sym, _∙_}
 use mathlib.Core.Bool.{Bool, true, false, cond}
-use mathlib.Core.List.{List}
-use lib.Dec.{leb, eqb·suc-zero}
+use mathlib.Core.List.{List, [], _∷_}
 use lib.IntN.{ℤ}
 use lib.ListN.{length}
-use Rattle.model.specs.Lists.{at, every, total, tabulate}
-use Rattle.model.specs.Records.{records, hasIncurred, setOf}
+use Rattle.model.specs.Lists.{every}
+use Rattle.model.specs.Records.{records, setLength, hasIncurred, setOf}
 use Rattle.model.specs.Questions.{q1, q2, q3, q4, q5, kinds, firstNo, ofRecords, ofFile}
-use Rattle.model.specs.Calls.{refusedRead, acceptedRead, readRefusal, readAnswer}
+use Rattle.model.specs.Calls.{readRefusal}
+use Rattle.model.specs.Lengths.{size-so, length-yes, length-so}
+use Rattle.model.specs.Lent.{ReadInto}
+use Rattle.model.specs.Tests.{by-test}
 use Rattle.triangles.specs.OneRecord.{wellFormed, q3-formed, ranged}
 use Rattle.triangles.specs.Places.{cells-of}
-use Rattle.model.specs.Lengths.{kinds-range, size-so, length-so}
-use Rattle.triangles.specs.Keys.{Keyed, keyCount, keySum}
-use Rattle.triangles.proofs.Once.{cellKey, cell-keys, keyed, fourth, triangle-key}
+use Rattle.triangles.specs.Keys.{fresh, RecordsRead}
+use Rattle.triangles.proofs.Once.{cell-keys, fourth, triangle-key}
 
-full-number : (hasIncurred : Bool) (n x l : ℕ) → 2 * n ≡ x → l ≡ cond hasIncurred 24 16 * x → kinds hasIncurred * n ≡ l / 16
+full-number : (hasIncurred : Bool) (n x k : ℕ) → 2 * n ≡ x → 16 * k ≡ cond hasIncurred 24 16 * x → kinds hasIncurred * n ≡ k
 unfolding kinds
-full-number true n x l e g = omega arith
-full-number false n x l e g = omega arith
+full-number true n x k e g = omega arith
+full-number false n x k e g = omega arith
 
-module _ (m : ℕ) (f : List ℕ) where
-  no : (n : ℕ) → readRefusal m f ≡ suc n → refusedRead (suc n) ≡ readAnswer m f
-  unfolding readAnswer
-  no n e = rw (e, eqb·suc-zero n)
+module _ (m : ℕ) (f : List ℕ) (set : List ℤ) where
+  no : (n : ℕ) → readRefusal m f ≡ suc n → ReadInto m f (suc n) set
+  no n e = record { result = sym e; holds = λ z. absurd (omega arith) }
 
-  pub no-1 : q1 m ≡ false → refusedRead 1 ≡ readAnswer m f
+  pub no-1 : q1 m ≡ false → ReadInto m f 1 set
   unfolding readRefusal firstNo ofFile
   no-1 a = no 0 (rw a)
 
   module _ (a : q1 m ≡ true) where
-    pub no-2 : q2 m f ≡ false → refusedRead 2 ≡ readAnswer m f
+    pub no-2 : (length f ≡ setLength m (hasIncurred m f) → ⊥) → ReadInto m f 2 set
     unfolding readRefusal firstNo ofFile
-    no-2 b = no 1 (rw (a, b))
+    no-2 o = no 1 (by-test (q2 m f) (λ y. absurd (o (length-so m f y))) (λ y. rw (a, y)))
 
-    module _ (b : q2 m f ≡ true) (there : Bool) (e : there ≡ hasIncurred m f) (n : ℕ) (all : n ≡ records f) where
-      third : every n (wellFormed m (kinds there) f) ≡ q3 m f
-      third = rw (e, all) (sym (q3-formed m f))
+    module _ (n : ℕ) (long : length f ≡ 16 * n) (sized : 16 * n ≡ setLength m (hasIncurred m f)) where
+      abbrev u : ℕ
+      u = kinds (hasIncurred m f)
 
-      pub no-3 : every n (wellFormed m (kinds there) f) ≡ false → refusedRead 3 ≡ readAnswer m f
-      unfolding readRefusal firstNo ofFile ofRecords
-      no-3 h = no 2 (rw (a, b, sym third ∙ h))
+      all : n ≡ records f
+      all = omega arith
 
-      module _ (formed : every n (wellFormed m (kinds there) f) ≡ true) where
-        pub all-keyed : Keyed f n
-        all-keyed = keyed m (kinds there) f n (size-so m a .1) formed (kinds-range there .1)
+      third : every n (wellFormed m u f) ≡ q3 m f
+      third = rw all (sym (q3-formed m f))
 
-        full : total (400 * kinds there) (cellKey m) ≡ n
-        full = cell-keys m (kinds there) ∙ full-number there _ _ (length f) (cells-of m (size-so m a .1)) (length-so m f b ∙ rw e) ∙ sym all
+      once : every n (wellFormed m u f) ≡ true → every n (fresh f) ≡ q4 m f
+      unfolding q4
+      once formed =
+          let full = cell-keys m u ∙ full-number (hasIncurred m f) _ _ n (cells-of m (size-so m a .1)) sized in
+          fourth m u f n (size-so m a .1) formed full all
 
-        once : every 1200 (λ q. leb (keyCount f n q) 1) ≡ q4 m f
-        unfolding q4
-        once = fourth m (kinds there) f n (size-so m a .1) formed full (kinds-range there .1) all ∙ rw e
+      questions : readRefusal m f ≡ firstNo ((3, every n (wellFormed m u f)) ∷ (4, every n (fresh f)) ∷ (5, every n (ranged f)) ∷ [])
+      unfolding readRefusal firstNo ofFile ofRecords q5 ranged
+      questions =
+          rw (a, length-yes m f (size-so m a .0) (hasIncurred m f) (long ∙ sized) .0, ← third, ← all)
+          (by-test (every n (wellFormed m u f)) (λ y. rw (y, once y)) (λ y. rw y))
 
-        pub no-4 : every 1200 (λ q. leb (keyCount f n q) 1) ≡ false → refusedRead 4 ≡ readAnswer m f
-        unfolding readRefusal firstNo ofFile ofRecords
-        no-4 h = no 3 (rw (a, b, sym third ∙ formed, sym once ∙ h))
-
-        module _ (single : every 1200 (λ q. leb (keyCount f n q) 1) ≡ true) where
-          pub no-5 : every n (ranged f) ≡ false → refusedRead 5 ≡ readAnswer m f
-          unfolding readRefusal firstNo ofFile ofRecords q5 ranged
-          no-5 h = no 4 (rw (a, b, sym third ∙ formed, sym once ∙ single, ← all, h))
-
-          pub accepted :
-              (cells : List ℤ) → every n (ranged f) ≡ true → ((q : ℕ) → q < 1200 → at cells q ≡ keySum f n q)
-              → (c p i : List ℤ) → c ≡ tabulate 400 (λ k. at cells (400 * 0 + k)) → p ≡ tabulate 400 (λ k. at cells (400 * 1 + k)) → i ≡ tabulate 400 (λ k. at cells (400 * 2 + k))
-              → acceptedRead (record { «has_incurred» = there; counts = c; paid = p; incurred = i }) ≡ readAnswer m f
-          unfolding readAnswer readRefusal firstNo ofFile ofRecords q5 ranged setOf
-          accepted cells h sums c p i ec ep ei =
-              let triangle = triangle-key m (kinds there) f n (size-so m a .1) formed in
-              rw (
-                ec ∙ triangle 0 cells (omega arith) all sums,
-                ep ∙ triangle 1 cells (omega arith) all sums,
-                ei ∙ triangle 2 cells (omega arith) all sums,
-                a,
-                b,
-                sym third ∙ formed,
-                sym once ∙ single,
-                ← all,
-                h,
-                e,
-              )
+      pub read-so : (r : ℕ) → RecordsRead m u f n r set → ReadInto m f r set
+      unfolding firstNo setOf
+      read-so r is =
+          record {
+            result = is .result ∙ sym questions;
+            holds = λ z. by-test (every n (wellFormed m u f))
+                (λ y. let triangle = triangle-key m u f n (size-so m a .1) y in
+                rw (triangle 0 set (omega arith) all (is .values z), triangle 1 set (omega arith) all (is .values z), triangle 2 set (omega arith) all (is .values z)))
+                (λ y. let three : r ≡ 3 = is .result ∙ rw y in absurd (omega arith));
+          }

@@ -1,29 +1,29 @@
--- Numbers of two, four and eight bytes, and the bytes that must be zero. Assumes nothing.
-use Prim.Native.Nat.{ℕ, _+_, _*_}
+-- Numbers of several bytes, and question 3 on the first eight of a record. Assumes nothing.
+use Prim.Native.Nat.{ℕ, zero, suc, _+_, _*_, _/_, _%_, _≤_}
+use native.Mathlib.Nat.{add-zero}
 use native.Mathlib.Omega.{arith}
-use mathlib.Core.Path.{_≡_, ap, _∙_}
-use mathlib.Core.Bool.{Bool, _&&_}
+use mathlib.Core.Path.{_≡_, sym, _∙_}
+use mathlib.Core.Bool.{_&&_, and-true, and-false, and-assoc}
 use mathlib.Core.List.{List}
-use borrow.Author.Tests.{eq-eqb, eqb-true}
-use lib.Dec.{eqb}
+use borrow.Author.Tests.{eq-eqb, eqb-true, lt-leb}
+use lib.Dec.{eqb, ltb, leb, eqb·suc-zero}
 use lib.ListN.{getD}
 use Rattle.model.specs.ListsLaws.{and-left, and-right}
-use Rattle.model.specs.Records.{leastFirst, sparesZero}
+use Rattle.model.specs.Records.{leastFirst, sparesZero, inside, yearAt, delayAt}
 use Rattle.model.specs.Tests.{same-test}
+use Rattle.triangles.specs.OneRecord.{Number, HeadAt, wellFormed}
 
-zero-both : (x y s : ℕ) → (s ≡ 0 → (x ≡ 0) × (y ≡ 0)) → (x ≡ 0 → y ≡ 0 → s ≡ 0) → eqb s 0 ≡ (eqb x 0 && eqb y 0)
-zero-both x y s p q =
-    same-test (eqb s 0) (eqb x 0 && eqb y 0) (λ e. let z = p (eqb-true s 0 e) in rw (eq-eqb x 0 (z .0), eq-eqb y 0 (z .1)))
-    (λ e. eq-eqb s 0 (q (eqb-true x 0 (and-left (eqb x 0) (eqb y 0) e)) (eqb-true y 0 (and-right (eqb x 0) (eqb y 0) e))))
+zero-both : (x y : ℕ) → eqb (x + 256 * y) 0 ≡ (eqb x 0 && eqb y 0)
+zero-both x y =
+    same-test (eqb (x + 256 * y) 0) (eqb x 0 && eqb y 0)
+    (λ e. let z = eqb-true (x + 256 * y) 0 e in rw (eq-eqb x 0 (omega arith), eq-eqb y 0 (omega arith)))
+    (λ e. let p = eqb-true x 0 (and-left (eqb x 0) (eqb y 0) e) in
+    let q = eqb-true y 0 (and-right (eqb x 0) (eqb y 0) e) in eq-eqb (x + 256 * y) 0 (omega arith))
 
-five-zero : (a b c d e : ℕ) → eqb (a + 256 * b + 65536 * c + 16777216 * d + e) 0 ≡ (eqb a 0 && eqb b 0 && eqb c 0 && eqb d 0 && eqb e 0)
-five-zero a b c d e =
-    zero-both (a + 256 * b + 65536 * c + 16777216 * d) e (a + 256 * b + 65536 * c + 16777216 * d + e) (λ z. (omega arith, omega arith)) (λ x y. omega arith)
-    ∙ ap (λ (t : Bool). t && eqb e 0)
-    (zero-both (a + 256 * b + 65536 * c) d (a + 256 * b + 65536 * c + 16777216 * d) (λ z. (omega arith, omega arith)) (λ x y. omega arith)
-    ∙ ap (λ (t : Bool). t && eqb d 0)
-    (zero-both (a + 256 * b) c (a + 256 * b + 65536 * c) (λ z. (omega arith, omega arith)) (λ x y. omega arith)
-    ∙ ap (λ (t : Bool). t && eqb c 0) (zero-both a b (a + 256 * b) (λ z. (omega arith, omega arith)) (λ x y. omega arith))))
+-- a sum of at most 20 has no part of 256 or more
+wide : (y d s m : ℕ) → m ≤ 20 → leb (y + (d + 256 * s)) m ≡ (leb (y + d) m && eqb s 0)
+wide y d zero m l = rw add-zero (sym (and-true (leb (y + d) m)))
+wide y d (suc s) m l = lt-leb (y + (d + 256 * suc s)) m (omega arith) ∙ rw eqb·suc-zero (sym (and-false (leb (y + d) m)))
 
 module _ (f : List ℕ) where
   pub least-two : (a : ℕ) → leastFirst 2 f a ≡ getD f a 0 + 256 * getD f (a + 1) 0
@@ -38,17 +38,31 @@ module _ (f : List ℕ) where
   unfolding leastFirst
   least-eight a = let e : a + 1 + 1 + 1 + 1 ≡ a + 4 = omega arith in rw e (omega arith)
 
-  least-spares : (k : ℕ) → leastFirst 4 f (16 * k + 3) ≡ getD f (16 * k + 3) 0 + 256 * getD f (16 * k + 4) 0 + 65536 * getD f (16 * k + 5) 0 + 16777216 * getD f (16 * k + 6) 0
+  -- the last five of eight
+  least-head : (a : ℕ) → leastFirst 8 f a ≡ getD f a 0 + 256 * (getD f (a + 1) 0 + 256 * (getD f (a + 2) 0 + 256 * leastFirst 5 f (a + 3)))
   unfolding leastFirst
-  least-spares k =
+  least-head a =
+      let e : a + 1 + 1 ≡ a + 2 = omega arith in
+      let g : a + 2 + 1 ≡ a + 3 = omega arith in
+      rw (e, g)
+
+  spares-sum : (k : ℕ) → eqb (leastFirst 5 f (16 * k + 3)) 0 ≡ sparesZero f k
+  unfolding leastFirst sparesZero
+  spares-sum k =
       let x : 16 * k + 3 + 1 ≡ 16 * k + 4 = omega arith in
       let y : 16 * k + 4 + 1 ≡ 16 * k + 5 = omega arith in
       let z : 16 * k + 5 + 1 ≡ 16 * k + 6 = omega arith in
-      rw (x, y, z) (omega arith)
+      let w : 16 * k + 6 + 1 ≡ 16 * k + 7 = omega arith in
+      rw (x, y, z, w) (simp (zero-both, and-assoc, and-true))
 
-  pub spares-sum : (k : ℕ) → eqb (leastFirst 4 f (16 * k + 3) + getD f (16 * k + 7) 0) 0 ≡ sparesZero f k
-  unfolding sparesZero
-  spares-sum k = rw (least-spares k) (five-zero (b 3) (b 4) (b 5) (b 6) (b 7))
-    where
-      b : ℕ → ℕ
-      b j = getD f (16 * k + j) 0
+  pub head-at : (k w : ℕ) → Number 8 f (16 * k) w → HeadAt f k (w % 256) (w / 256 % 256) (w / 65536)
+  head-at k w n =
+      let e = n .is ∙ least-head (16 * k) in
+      let b = n .first in
+      let d = n .second in
+      let l = n .small in
+      record { kindIs = omega arith; yearIs = (omega arith, omega arith); delayIs = (omega arith, omega arith) }
+
+  pub head-formed : (m u k : ℕ) {kind year delay : ℕ} → HeadAt f k kind year delay → m ≤ 20 → (ltb kind u && inside m year delay) ≡ wellFormed m u f k
+  unfolding wellFormed
+  head-formed m u k h l = rw (h .kindIs, h .yearIs .0, h .delayIs .0, wide (yearAt f k) (delayAt f k) _ m l, spares-sum k) (simp and-assoc)

@@ -1,22 +1,23 @@
--- The flags and the cells of the reader's loops, one record at a time. Assumes nothing.
+-- The flags and the cells of the reader's loop, one record at a time. Assumes nothing.
 use Prim.Native.Nat.{ℕ, zero, suc, _+_, _<_, _≤_}
 use mathlib.Core.Logic.{⊎-elim}
-use native.Mathlib.Nat.{not-suc-le-zero, eq-or-lt-of-le, le-of-suc-le-suc}
+use native.Mathlib.Nat.{add-zero, not-suc-le-zero, eq-or-lt-of-le, le-of-suc-le-suc}
 use native.Mathlib.Numerals.{add-one}
 use native.Mathlib.Omega.{arith}
 use mathlib.Core.Path.{_≡_, refl, sym, ap, subst, _∙_}
-use mathlib.Core.Bool.{Bool, cond}
+use mathlib.Core.Bool.{Bool, true, cond}
 use mathlib.Core.List.{List}
-use borrow.Author.Tests.{eq-eqb, eqb-true}
+use borrow.Author.Tests.{eq-eqb, ne-eqb, eqb-true}
 use lib.Dec.{eqb}
 use lib.IntN.{ℤ, pos, _+ℤ_, +ℤ-idl, +ℤ-idr}
 use lib.ListN.{length, getD, set, length-set, getD-replicate, replicate}
 use Rattle.integers.specs.Sums.{sum}
-use Rattle.model.specs.Lists.{at, total, count}
+use Rattle.model.specs.Lists.{at, every, total, count}
+use Rattle.model.specs.ListsLaws.{and-left, and-right, every-at, every-all}
 use Rattle.model.specs.Records.{valueAt}
 use Rattle.model.specs.Tests.{by-test}
 use Rattle.triangles.specs.Stores.{getD-set}
-use Rattle.triangles.specs.Keys.{keyAt, keyCount, keySum}
+use Rattle.triangles.specs.Keys.{keyAt, keyCount, keySum, fresh}
 
 module _ (f : List ℕ) where
   pub count-none : (q : ℕ) → keyCount f 0 q ≡ 0
@@ -58,37 +59,52 @@ module _ (f : List ℕ) where
       less : (c : ℕ) → c + 0 ≡ 0 → c ≡ 0
       less c h = omega arith
 
-  -- ---- the flags: each says how often its key stood there, at most once
+  -- no key stands twice where each record is the first of its key, and the other way round
+  pub once-so : (n : ℕ) → every n (fresh f) ≡ true → (q : ℕ) → keyCount f n q ≤ 1
+  unfolding every fresh
+  once-so zero h q = omega (arith, count-none q)
+  once-so (suc n) h q =
+      rw (← add-one n, count-more n q)
+      (by-test (eqb (keyAt f n) q)
+      (λ y. let z = eqb-true _ 0 (and-right (every n (fresh f)) _ h) in
+      let e : keyCount f n q ≡ 0 = subst (λ (i : ℕ). keyCount f n i ≡ 0) (eqb-true (keyAt f n) q y) z in rw y (omega arith))
+      (λ y. rw y (omega (arith, once-so n (and-left (every n (fresh f)) _ h) q))))
+
+  pub so-once : (n : ℕ) → ((k : ℕ) → k < n → keyCount f n (keyAt f k) ≤ 1) → every n (fresh f) ≡ true
+  unfolding fresh
+  so-once n h = every-all _ n (λ k l. eq-eqb (keyCount f k (keyAt f k)) 0 (omega (arith, count-at n k l, h k l)))
+
+  -- ---- the flags: whether a key stood there
   abbrev pub Flags : ℕ → List ℕ → Type 0
-  Flags k seen = (length seen ≡ 1200) × ((q : ℕ) → q < 1200 → (getD seen q 0 ≡ keyCount f k q) × (keyCount f k q ≤ 1))
+  Flags k seen = (length seen ≡ 1200) × ((q : ℕ) → q < 1200 → eqb (getD seen q 0) 0 ≡ eqb (keyCount f k q) 0)
 
   pub flags-none : Flags 0 (replicate 1200 0)
-  flags-none = (refl, λ q h. (getD-replicate 1200 q 0 0 h ∙ sym (count-none q), omega (arith, count-none q)))
+  flags-none = (refl, λ q h. rw (getD-replicate {A = ℕ} 1200 q 0 0 h, count-none q))
 
-  pub flags-more : (k q : ℕ) (seen : List ℕ) → q ≡ keyAt f k → q < 1200 → getD seen q 0 ≡ 0 → Flags k seen → Flags (k + 1) (set seen q 1)
-  flags-more k q seen e l z is = (simp length-set (is .0), one)
+  pub flags-more : (k q : ℕ) (seen : List ℕ) → q ≡ keyAt f k → q < 1200 → Flags k seen → Flags (k + 1) (set seen q 1)
+  flags-more k q seen e l is = (simp length-set (is .0), one)
     where
-      one : (r : ℕ) → r < 1200 → (getD (set seen q 1) r 0 ≡ keyCount f (k + 1) r) × (keyCount f (k + 1) r ≤ 1)
+      one : (r : ℕ) → r < 1200 → eqb (getD (set seen q 1) r 0) 0 ≡ eqb (keyCount f (k + 1) r) 0
       one r h =
           rw (getD-set seen q r 1 0 (omega (arith, is .0)), count-more k r, ← e)
-          (by-test (eqb q r)
-          (λ y. let w : getD seen r 0 ≡ 0 = subst (λ (i : ℕ). getD seen i 0 ≡ 0) (eqb-true q r y) z in rw y (omega (arith, is .1 r h .0), omega (arith, is .1 r h .0)))
-          (λ y. rw y (is .1 r h .0 ∙ omega arith, omega (arith, is .1 r h .1))))
+          (by-test (eqb q r) (λ y. rw (y, ne-eqb (keyCount f k r + 1) 0 (λ z. omega arith))) (λ y. rw (y, add-zero) (is .1 r h)))
 
-  -- ---- the cells: each is the sum of its key's values
+  -- ---- the cells: where no key stood there twice, each is the sum of its key's values
   abbrev pub Cells : ℕ → List ℤ → Type 0
-  Cells k out = (length out ≡ 1200) × ((q : ℕ) → q < 1200 → at out q ≡ keySum f k q)
+  Cells k out = (length out ≡ 1200) × (every k (fresh f) ≡ true → (q : ℕ) → q < 1200 → at out q ≡ keySum f k q)
 
   pub cells-none : Cells 0 (replicate 1200 (pos 0))
-  cells-none = (refl, λ q h. getD-replicate 1200 q (pos 0) (pos 0) h ∙ sym (sum-none q))
+  cells-none = (refl, λ _ q h. getD-replicate 1200 q (pos 0) (pos 0) h ∙ sym (sum-none q))
 
-  pub cells-more :
-      (k q : ℕ) (v : ℤ) (out : List ℤ) → q ≡ keyAt f k → q < 1200 → keyCount f k q ≡ 0 → v ≡ valueAt f k → Cells k out → Cells (k + 1) (set out q v)
-  cells-more k q v out e l new ev is = (simp length-set (is .0), one)
+  pub cells-more : (k q : ℕ) (v : ℤ) (out : List ℤ) → q ≡ keyAt f k → q < 1200 → v ≡ valueAt f k → Cells k out → Cells (k + 1) (set out q v)
+  unfolding fresh
+  cells-more k q v out e l ev is = (simp length-set (is .0), one)
     where
-      one : (r : ℕ) → r < 1200 → at (set out q v) r ≡ keySum f (k + 1) r
-      one r h =
+      one : every (k + 1) (fresh f) ≡ true → (r : ℕ) → r < 1200 → at (set out q v) r ≡ keySum f (k + 1) r
+      one o r h =
+          let before = every-all _ k (λ i b. every-at (fresh f) (k + 1) i o (omega arith)) in
+          let new : keyCount f k q ≡ 0 = rw e (eqb-true _ 0 (every-at (fresh f) (k + 1) k o (omega arith))) in
           rw (getD-set out q r v (pos 0) (omega (arith, is .0)), sum-more k r, ← e, ← ev)
           (by-test (eqb q r)
           (λ y. rw (y, subst (λ (i : ℕ). keySum f k i ≡ pos 0) (eqb-true q r y) (sum-zero k q new)) (sym (+ℤ-idl v)))
-          (λ y. rw y (is .1 r h ∙ sym (+ℤ-idr (keySum f k r)))))
+          (λ y. rw y (is .1 before r h ∙ sym (+ℤ-idr (keySum f k r)))))

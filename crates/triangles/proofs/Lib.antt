@@ -1,8 +1,7 @@
 pub mod Signs
 pub mod Bytes
-pub mod Ranges
 pub mod Counting
 pub mod Once
 pub mod Answer
-pub mod KindBytes
+pub mod Chained
 pub mod Writing

@@ -7,21 +7,22 @@ use native.Mathlib.Nat.{not-suc-le-zero}
 use mathlib.Core.Path.{_≡_, refl, sym, ap, _∙_}
 use mathlib.Core.Bool.{Bool, true, false, _&&_, cond, true≢false}
 use mathlib.Core.List.{List}
-use borrow.Author.Tests.{ltb-true, ltb-false, leb-true, le-leb, eq-eqb, ne-eqb, eqb-true}
-use lib.Dec.{ltb, leb, eqb}
+use borrow.Author.Tests.{ltb-true, eq-eqb, ne-eqb, eqb-true}
+use lib.Dec.{ltb, eqb}
 use lib.IntN.{ℤ, pos}
 use Rattle.integers.specs.Sums.{sum-cong, sum-nothing}
-use Rattle.model.specs.Lists.{at, every, total, count, tabulate}
+use Rattle.model.specs.Lists.{at, every, total, count}
 use Rattle.model.specs.ListsLaws.{every-at, every-all, and-left, and-right, tabulate-ext, total-ext, total-plus, total-tight}
 use Rattle.model.specs.Records.{inside, kindAt, yearAt, delayAt, sparesZero, records, isOf, copies, valueOf, triangle}
 use Rattle.model.specs.RecordsLaws.{inside-yes, inside-so}
 use Rattle.model.specs.Questions.{eachCell}
+use Rattle.model.specs.Lent.{triangleIn}
 use Rattle.model.specs.Tests.{by-test, same-test}
 use Rattle.triangles.specs.Folds.{totals, fold-unit, fold-split, fold-pick, joined, total-fold}
 use Rattle.triangles.specs.OneRecord.{wellFormed}
 use Rattle.triangles.specs.Places.{insideAt, place-passes, places-pass}
-use Rattle.triangles.proofs.Counting.{count-none, count-more}
-use Rattle.triangles.specs.Keys.{keyAt, Keyed, keyCount, keySum, Distinct}
+use Rattle.triangles.proofs.Counting.{count-none, count-more, once-so, so-once}
+use Rattle.triangles.specs.Keys.{keyAt, keyCount, keySum, fresh}
 
 -- ---- how many keys are cells
 
@@ -41,14 +42,10 @@ cell-keys m (suc u) =
 
 -- ---- one record
 
-formed-so : (m u : ℕ) (f : List ℕ) (k : ℕ) → wellFormed m u f k ≡ true → (kindAt f k < u) × (1 ≤ yearAt f k) × (yearAt f k + delayAt f k ≤ m)
-unfolding wellFormed
-formed-so m u f k e =
-    let a = ltb (kindAt f k) u in
-    let b = inside m (yearAt f k) (delayAt f k) in
-    let ab : (a && b) ≡ true = and-left (a && b) (sparesZero f k) e in
-    let i = inside-so m (yearAt f k) (delayAt f k) (and-right a b ab) in
-    (ltb-true _ _ (and-left a b ab), i .0, i .1)
+pub parts-so : (m u a i j : ℕ) → (ltb a u && inside m i j) ≡ true → (a < u) × (1 ≤ i) × (i + j ≤ m)
+parts-so m u a i j e =
+    let y = inside-so m i j (and-right (ltb a u) (inside m i j) e) in
+    (ltb-true a u (and-left (ltb a u) (inside m i j) e), y .0, y .1)
 
 key-parts :
     (a i j t p : ℕ) → 1 ≤ i → i + j ≤ 20 → p < 400 → (eqb a t && eqb i (p / 20 + 1) && eqb j (p % 20)) ≡ eqb (400 * a + (20 * (i - 1) + j)) (400 * t + p)
@@ -64,11 +61,10 @@ key-parts a i j t p h l b =
 
 module _ (m u : ℕ) (f : List ℕ) (n : ℕ) (small : m ≤ 20) (formed : every n (wellFormed m u f) ≡ true) where
   so : (k : ℕ) → k < n → (kindAt f k < u) × (1 ≤ yearAt f k) × (yearAt f k + delayAt f k ≤ m)
-  so k l = formed-so m u f k (every-at (wellFormed m u f) n k formed l)
-
-  pub keyed : u ≤ 3 → Keyed f n
-  unfolding keyAt
-  keyed h k l = let w = so k l in (w .1, omega arith)
+  unfolding wellFormed
+  so k l =
+      let yes = every-at (wellFormed m u f) n k formed l in
+      parts-so m u (kindAt f k) (yearAt f k) (delayAt f k) (and-left (ltb (kindAt f k) u && inside m (yearAt f k) (delayAt f k)) (sparesZero f k) yes)
 
   key-small : (k : ℕ) → k < n → keyAt f k < 400 * u
   unfolding keyAt
@@ -103,9 +99,9 @@ module _ (m u : ℕ) (f : List ℕ) (n : ℕ) (small : m ≤ 20) (formed : every
   sum-outside t p h o = sum-nothing n (λ k l. rw (none-outside t p k h o l))
 
   -- the triangle of kind t, from the sums by key
-  pub triangle-key : (t : ℕ) (cells : List ℤ) → t < 3 → n ≡ records f → ((q : ℕ) → q < 1200 → at cells q ≡ keySum f n q) → tabulate 400 (λ p. at cells (400 * t + p)) ≡ triangle m (valueOf f t)
-  unfolding triangle
-  triangle-key t cells k e h =
+  pub triangle-key : (t : ℕ) (set : List ℤ) → t < 3 → n ≡ records f → ((q : ℕ) → q < 1200 → at set q ≡ keySum f n q) → triangleIn t set ≡ triangle m (valueOf f t)
+  unfolding triangle triangleIn
+  triangle-key t set k e h =
       tabulate-ext 400 _ _
       (λ p l. h (400 * t + p) (omega arith) ∙ by-test (insideAt m p) (λ i. rw i (sym (value-key t p l e))) (λ o. rw o (sum-outside t p l o)))
 
@@ -123,43 +119,35 @@ module _ (m u : ℕ) (f : List ℕ) (n : ℕ) (small : m ≤ 20) (formed : every
       total-ext (400 * u) _ (λ q. keyCount f j q + cond (eqb (keyAt f j) q) 1 0) (λ q h. ap (λ (i : ℕ). keyCount f i q) (sym (add-one j)) ∙ count-more f j q)
       ∙ total-plus (400 * u) (keyCount f j) (λ q. cond (eqb (keyAt f j) q) 1 0) ∙ omega (arith, keys-total j (omega arith), key-one j l)
 
-  module _ (full : total (400 * u) (cellKey m) ≡ n) (kinds : u ≤ 3) (all : n ≡ records f) where
-    at-most : Distinct f n → (q : ℕ) → q < 400 * u → keyCount f n q ≤ cellKey m q
+  module _ (full : total (400 * u) (cellKey m) ≡ n) (all : n ≡ records f) where
+    abbrev eachOnce : Bool
+    eachOnce = every u (λ t. eachCell m (λ i j. eqb (copies f t i j) 1))
+
+    at-most : every n (fresh f) ≡ true → (q : ℕ) → q < 400 * u → keyCount f n q ≤ cellKey m q
     at-most d q l =
         let e : q ≡ 400 * (q / 400) + q % 400 = omega arith in
-        by-test (insideAt m (q % 400)) (λ i. rw i (d q (omega arith)))
+        by-test (insideAt m (q % 400)) (λ i. rw i (once-so f n d q))
         (λ o. rw o (omega (arith, ap (keyCount f n) e ∙ count-outside (q / 400) (q % 400) (omega arith) o)))
 
-    exactly : Distinct f n → (q : ℕ) → q < 400 * u → keyCount f n q ≡ cellKey m q
-    exactly d = total-tight (400 * u) (keyCount f n) (cellKey m) (at-most d) (keys-total n (omega arith) ∙ sym full)
-
-    once : Distinct f n → every u (λ t. eachCell m (λ i j. eqb (copies f t i j) 1)) ≡ true
+    once : every n (fresh f) ≡ true → eachOnce ≡ true
     once d =
         every-all _ u
         (λ t k. places-pass m _ small
         (λ p l i. let e : (400 * t + p) % 400 ≡ p = omega arith in
-        eq-eqb _ 1 (copies-key t p l all ∙ exactly d (400 * t + p) (omega arith) ∙ rw (e, i))))
+        let exactly = total-tight (400 * u) (keyCount f n) (cellKey m) (at-most d) (keys-total n (omega arith) ∙ sym full) in
+        eq-eqb _ 1 (copies-key t p l all ∙ exactly (400 * t + p) (omega arith) ∙ rw (e, i))))
 
-    beyond : (q : ℕ) → 400 * u ≤ q → keyCount f n q ≡ 0
-    unfolding keyCount count
-    beyond q h = total-fold n _ ∙ fold-unit totals n _ (λ k l. rw (ne-eqb (keyAt f k) q (λ e. omega (arith, key-small k l))))
-
-    distinct : every u (λ t. eachCell m (λ i j. eqb (copies f t i j) 1)) ≡ true → Distinct f n
-    distinct h q l =
-        let t = q / 400 in
-        let p = q % 400 in
-        let e : q ≡ 400 * t + p = omega arith in
-        let b : p < 400 = omega arith in
-        by-test (ltb t u)
-        (λ y. by-test (insideAt m p)
-        (λ i. let z = place-passes m (λ i j. eqb (copies f t i j) 1) (every-at (λ t. eachCell m (λ i j. eqb (copies f t i j) 1)) u t h (ltb-true t u y)) p i in
-        omega (arith, ap (keyCount f n) e ∙ sym (copies-key t p b all) ∙ eqb-true (copies f t (p / 20 + 1) (p % 20)) 1 z))
-        (λ o. omega (arith, ap (keyCount f n) e ∙ count-outside t p b o)))
-        (λ y. let g = ltb-false t u y in omega (arith, beyond q (omega arith)))
+    -- the key of record k is a cell of its kind
+    distinct : eachOnce ≡ true → (k : ℕ) → k < n → keyCount f n (keyAt f k) ≤ 1
+    unfolding keyAt
+    distinct h k l =
+        let w = so k l in
+        let t = kindAt f k in
+        let p = 20 * (yearAt f k - 1) + delayAt f k in
+        let z = place-passes m (λ i j. eqb (copies f t i j) 1) (every-at (λ t. eachCell m (λ i j. eqb (copies f t i j) 1)) u t h (w .0)) p
+        (inside-yes m (p / 20 + 1) (p % 20) (omega arith) (omega arith)) in
+        omega (arith, sym (copies-key t p (omega arith) all) ∙ eqb-true (copies f t (p / 20 + 1) (p % 20)) 1 z)
 
     -- question 4
-    pub fourth : every 1200 (λ q. leb (keyCount f n q) 1) ≡ every u (λ t. eachCell m (λ i j. eqb (copies f t i j) 1))
-    fourth =
-        same-test (every 1200 (λ q. leb (keyCount f n q) 1)) (every u (λ t. eachCell m (λ i j. eqb (copies f t i j) 1)))
-        (λ h. once (λ q l. leb-true (keyCount f n q) 1 (every-at (λ q. leb (keyCount f n q) 1) 1200 q h l)))
-        (λ h. every-all _ 1200 (λ q l. le-leb (keyCount f n q) 1 (distinct h q l)))
+    pub fourth : every n (fresh f) ≡ eachOnce
+    fourth = same-test (every n (fresh f)) eachOnce once (λ h. so-once f n (distinct h))

@@ -1,37 +1,20 @@
 -- From the writer's questions to `Wrote`. Assumes nothing.
-use Prim.Native.Nat.{ℕ, suc, _+_, _≤_, _<_}
+use Prim.Native.Nat.{ℕ, suc, _≤_, _<_}
 use native.Mathlib.Omega.{arith}
 use native.Mathlib.Nat.{zero-add}
 use mathlib.Core.Path.{_≡_, refl, ap, _∙_}
-use mathlib.Core.Bool.{Bool, true, false, cond}
-use mathlib.Core.List.{List, _++_}
+use mathlib.Core.Bool.{Bool, true, false}
+use mathlib.Core.List.{List}
 use borrow.Author.Tests.{le-leb, lt-leb}
-use lib.ListN.{length, take, drop, length-append}
+use lib.ListN.{length, take, drop}
 use lib.Seq.{take-at, drop-at}
 use lib.IntN.{ℤ}
 use Rattle.model.specs.Records.{setLength}
-use Rattle.model.specs.Questions.{q1, q4, q5Writer, q7Writer, kinds, firstNo}
+use Rattle.model.specs.Questions.{q1, q4, q5Writer, q7Writer, firstNo}
 use Rattle.model.specs.Calls.{writeRefusal, readAnswer, Wrote}
-use Rattle.triangles.specs.Written.{ofKind, kindBytes, kindsBytes, setBytes}
+use Rattle.triangles.specs.Written.{setBytes}
 use Rattle.triangles.specs.RoundTrip.{length-set, once-each, read-back}
-use Rattle.model.specs.Overlay.{overlay, overlay-more}
-
--- ---- the kinds, one after the other
-module _ (m : ℕ) (a b c : List ℤ) where
-  pub set-length : (hasIncurred : Bool) → length (setBytes m hasIncurred a b c) ≡ length (kindBytes m 0 a 400) + length (kindBytes m 1 b 400) + cond hasIncurred (length (kindBytes m 2 c 400)) 0
-  unfolding setBytes kindsBytes ofKind kinds
-  set-length true = rw (length-append, length-append)
-  set-length false = rw length-append (omega arith)
-
-  module _ (d e f : List ℕ) (n : ℕ) (one : e ≡ overlay d 0 (kindBytes m 0 a 400)) (en : n ≡ 0 + length (kindBytes m 0 a 400)) (two : f ≡ overlay e n (kindBytes m 1 b 400)) where
-    pub set-two : f ≡ overlay d 0 (setBytes m false a b c)
-    unfolding setBytes kindsBytes ofKind kinds
-    set-two = two ∙ rw one (overlay-more d 0 (kindBytes m 0 a 400) (kindBytes m 1 b 400) n (omega arith) en)
-
-    pub set-three : (g : List ℕ) (k : ℕ) → k ≡ n + length (kindBytes m 1 b 400) → g ≡ overlay f k (kindBytes m 2 c 400) → g ≡ overlay d 0 (setBytes m true a b c)
-    unfolding setBytes kindsBytes ofKind kinds
-    set-three g k ek third =
-        third ∙ rw set-two (overlay-more d 0 (kindBytes m 0 a 400 ++ kindBytes m 1 b 400) (kindBytes m 2 c 400) k (omega arith) (rw length-append (omega arith)))
+use Rattle.model.specs.Overlay.{overlay}
 
 -- ---- the cases of `Wrote`
 module _ (m : ℕ) (hasIncurred : Bool) (a b c : List ℤ) (d : List ℕ) where

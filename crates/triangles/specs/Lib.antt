@@ -5,6 +5,7 @@ pub mod OneRecord
 pub mod Order
 pub mod Places
 pub mod Keys
+pub mod LentLaws
 pub mod Written
 pub mod WrittenLaws
 pub mod RoundTrip

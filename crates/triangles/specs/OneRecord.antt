@@ -3,7 +3,7 @@
 use mathlib.Core.Path.{_≡_, refl, sym, _∙_, ap, ap₂}
 use mathlib.Core.Bool.{Bool, _&&_, cond}
 use mathlib.Core.List.{List, _++_}
-use Prim.Native.Nat.{ℕ, zero, suc, _+_, _*_, _<_}
+use Prim.Native.Nat.{ℕ, zero, suc, _+_, _*_, _^_, _<_}
 use native.Mathlib.Nat.{add-zero}
 use native.Mathlib.Omega.{arith}
 use lib.Dec.{ltb}
@@ -18,11 +18,19 @@ use Rattle.triangles.specs.Folds.{Monoid, fold, fold-ext, fold-split, jo
 unfoldable pub recordAt : List ℕ → ℕ → List ℕ
 recordAt f k = take 16 (drop (16 * k) f)
 
--- bytes 0 to 2 of record k
+-- r is the number of n bytes from place a on, the first two of which are bytes
+pub record Number (n : ℕ) (f : List ℕ) (a r : ℕ) : Type 0 where
+  pub is : r ≡ leastFirst n f a
+  pub small : r < 256 ^ n
+  pub first : getD f a 0 < 256
+  pub second : getD f (a + 1) 0 < 256
+
+-- the first eight bytes of record k: its kind, its year, and as one number its delay and spare
+-- bytes
 pub record HeadAt (f : List ℕ) (k : ℕ) (kind year delay : ℕ) : Type 0 where
-  pub kindIs : (kind ≡ kindAt f k) × (kind < 256)
+  pub kindIs : kind ≡ kindAt f k
   pub yearIs : (year ≡ yearAt f k) × (year < 256)
-  pub delayIs : (delay ≡ delayAt f k) × (delay < 256)
+  pub delayIs : (delay ≡ delayAt f k + 256 * leastFirst 5 f (16 * k + 3)) × (delay < 2 ^ 48)
 
 -- what G says of record k it says of the record alone
 abbrev pub Local : {A : Type 0} → (List ℕ → ℕ → A) → Type 0

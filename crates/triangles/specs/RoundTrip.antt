@@ -1,27 +1,27 @@
 -- What the writer writes is read back as the set that it was given: `read-back`. Assumes nothing.
-use Prim.Native.Nat.{ℕ, zero, suc, _<_}
+use Prim.Native.Nat.{ℕ, zero, suc, _+_, _<_, _≤_}
 use native.Mathlib.Omega.{arith}
-use mathlib.Core.Path.{_≡_, refl, sym, ap, _∙_}
+use mathlib.Core.Path.{_≡_, refl, _∙_}
 use mathlib.Core.Bool.{Bool, true, false, _&&_, _||_, not, cond}
 use mathlib.Core.List.{List}
 use lib.ListN.{length, replicate}
 use lib.IntN.{ℤ, pos}
-use Rattle.model.specs.Lists.{at}
+use Rattle.model.specs.Lists.{total}
 use Rattle.model.specs.ListsLaws.{and-left, and-right}
 use Rattle.model.specs.Records.{cell, valueOf, setLength, hasIncurred, triangle, setOf, givenSet, inRange}
 use Rattle.model.specs.Questions.{q1, q2, q3, q4, q5Writer, kinds, eachCell, firstNo, ofRecords, ofFile}
+use Rattle.model.specs.QuestionsLaws.{eachCell-at}
 use Rattle.model.specs.Calls.{acceptedRead, readRefusal, readAnswer}
 use Rattle.triangles.specs.OneRecord.{q3-formed}
-use Rattle.triangles.specs.Places.{insideAt, cell-place, place-passes, cells-of}
 use Rattle.model.specs.Lengths.{kinds-range, size-so, length-yes}
 use Rattle.triangles.specs.Written.{ofKind, setBytes}
-use Rattle.triangles.specs.WrittenLaws.{length-kinds, third, fourth, fifth, triangle-held, triangle-none}
+use Rattle.triangles.specs.WrittenLaws.{in-kind, length-kinds, third, fourth, fifth, triangle-held, triangle-none}
 
 module _ (m : ℕ) (c d e : List ℤ) (size : q1 m ≡ true) where
   pub length-set : (there : Bool) → length (setBytes m there c d e) ≡ setLength m there
-  unfolding setBytes kinds
-  length-set true = let n = cells-of m (size-so m size .1) in length-kinds m (ofKind c d e) 3 ∙ omega arith
-  length-set false = let n = cells-of m (size-so m size .1) in length-kinds m (ofKind c d e) 2 ∙ omega arith
+  unfolding setBytes kinds total
+  length-set true = let n = in-kind m (size-so m size .1) in length-kinds m (ofKind c d e) 3 ∙ omega arith
+  length-set false = let n = in-kind m (size-so m size .1) in length-kinds m (ofKind c d e) 2 ∙ omega arith
 
   -- question 5 of the writer, by kind
   abbrev fine : ℕ → Bool
@@ -40,20 +40,19 @@ module _ (m : ℕ) (c d e : List ℤ) (size : q1 m ≡ true) where
     abbrev written : List ℕ
     written = setBytes m there c d e
 
-    in-range : (t p : ℕ) → t < kinds there → p < 400 → insideAt m p ≡ true → inRange t (at (ofKind c d e t) p) ≡ true
-    in-range t p k l i =
-        ap (inRange t) (sym (cell-place (ofKind c d e t) p)) ∙ place-passes m (λ i j. inRange t (cell (ofKind c d e t) i j)) (of-kind there ok t k) p i
+    in-range : (t i j : ℕ) → t < kinds there → 1 ≤ i → i + j ≤ m → inRange t (cell (ofKind c d e t) i j) ≡ true
+    in-range t i j k l b = eachCell-at m _ (of-kind there ok t k) i j l b
 
     second : (q2 m written ≡ true) × (there ≡ hasIncurred m written)
     second = length-yes m written (size-so m size .0) there (length-set there)
 
     pub once-each : q4 m written ≡ true
     unfolding q4 setBytes
-    once-each = rw (← second .1) (fourth m (ofKind c d e) (kinds there) in-range (size-so m size .1))
+    once-each = rw (← second .1) (fourth m (ofKind c d e) (kinds there))
 
     all-formed : q3 m written ≡ true
     unfolding setBytes
-    all-formed = q3-formed m written ∙ rw (← second .1) (third m (ofKind c d e) (kinds there) in-range)
+    all-formed = q3-formed m written ∙ rw (← second .1) (third m (ofKind c d e) (kinds there))
 
     accepted : readRefusal m written ≡ 0
     unfolding readRefusal firstNo ofFile ofRecords setBytes
@@ -62,7 +61,7 @@ module _ (m : ℕ) (c d e : List ℤ) (size : q1 m ≡ true) where
     last : (b : Bool) → there ≡ b → triangle m (valueOf written 2) ≡ cond b (triangle m (cell e)) (replicate 400 (pos 0))
     unfolding setBytes kinds ofKind
     last true z = triangle-held m (ofKind c d e) (kinds there) in-range 2 (rw z (omega arith))
-    last false z = triangle-none m (ofKind c d e) (kinds there) in-range 2 (rw z (omega arith))
+    last false z = triangle-none m (ofKind c d e) (kinds there) 2 (rw z (omega arith))
 
     set-back : setOf m written ≡ givenSet m there c d e
     unfolding setOf givenSet setBytes ofKind

@@ -3,24 +3,26 @@
 use Prim.Native.Nat.{ℕ, zero, suc, _+_, _-_, _*_, _/_, _%_, _^_, _<_, _≤_}
 use native.Mathlib.Omega.{arith}
 use mathlib.Core.Path.{_≡_, refl, sym, ap, _∙_}
-use mathlib.Core.Bool.{Bool, true, cond, false≢true}
-use mathlib.Core.List.{List, []}
-use borrow.Author.Tests.{lt-ltb, le-ltb, leb-true, eq-eqb, ne-eqb, eqb-true}
+use mathlib.Core.Bool.{Bool, true, _&&_, cond, false≢true}
+use mathlib.Core.List.{List}
+use borrow.Author.Tests.{lt-ltb, le-ltb, leb-true, eq-eqb, eqb-true}
 use lib.ListN.{length, replicate, length-append, length-replicate, getD-replicate}
 use lib.Dec.{ltb, eqb}
 use lib.IntN.{ℤ, pos, negsuc}
 use lib.Signed.{leZ}
 use mir.Syntax.{w64}
 use mir.Val.{SFits}
-use Rattle.model.specs.Lists.{at, every, total, count}
-use Rattle.model.specs.ListsLaws.{every-all, and-left, and-right, is-tabulate, tabulate-ext}
+use Rattle.model.specs.Lists.{every, total, count}
+use Rattle.model.specs.ListsLaws.{every-at, every-all, and-left, and-right, is-tabulate, tabulate-ext}
 use Rattle.model.specs.Records.{cell, sparesZero, valueAt, leastFirst, signed, records, isOf, copies, valueOf, triangle, inRange}
+use Rattle.model.specs.RecordsLaws.{inside-yes, inside-so}
 use Rattle.model.specs.Questions.{q5, eachCell}
+use Rattle.model.specs.QuestionsLaws.{eachCell-all}
+use Rattle.model.specs.Tests.{by-test}
 use Rattle.triangles.specs.Folds.{Monoid, alls, totals, sums, fold, fold-unit, fold-pick, joined, every-fold, total-fold, sum-fold}
 use Rattle.triangles.specs.OneRecord.{Local, wellFormed, wellFormed-local, ranged, ranged-local, ofCell, ofCell-local, value-local, over, over-append}
-use Rattle.model.specs.Tests.{by-test}
-use Rattle.triangles.specs.Places.{insideAt, cell-place, places-pass}
-use Rattle.triangles.specs.Written.{bits, digits, recordBytes, placeBytes, kindBytes, kindsBytes}
+use Rattle.triangles.specs.Places.{insideAt}
+use Rattle.triangles.specs.Written.{bits, digits, chained, recordBytes, cellBytes, yearBytes, kindBytes}
 
 -- ---- one record
 
@@ -45,157 +47,165 @@ unfolding bits signed
 bits-back (pos n) s = rw (lt-ltb n (2 ^ 63) (s .sfits))
 bits-back (negsuc n) s = let b = s .sfits in rw (le-ltb (2 ^ 64 - suc n) (2 ^ 63) (omega arith)) (ap negsuc (omega arith))
 
-module _ (t p : ℕ) where
-  digits-back : (x : ℕ) → x < 2 ^ 64 → leastFirst 8 (recordBytes t p x) 8 ≡ x
+module _ (t i j : ℕ) where
+  digits-back : (x : ℕ) → x < 2 ^ 64 → leastFirst 8 (recordBytes t i j x) 8 ≡ x
   unfolding recordBytes digits leastFirst
   digits-back x h = omega arith
 
   module _ (v : ℤ) (ok : inRange t v ≡ true) where
-    value-back : valueAt (recordBytes t p (bits v)) 0 ≡ v
+    value-back : valueAt (recordBytes t i j (bits v)) 0 ≡ v
     unfolding valueAt
     value-back = let s = range-fits t v ok in ap signed (digits-back (bits v) (bits-small v s)) ∙ bits-back v s
 
-    ranged-back : ranged (recordBytes t p (bits v)) 0 ≡ true
+    ranged-back : ranged (recordBytes t i j (bits v)) 0 ≡ true
     unfolding ranged recordBytes
     ranged-back = ap (inRange t) value-back ∙ ok
 
-  well-back : (m u x : ℕ) → t < u → insideAt m p ≡ true → wellFormed m u (recordBytes t p x) 0 ≡ true
+  well-back : (m u x : ℕ) → t < u → 1 ≤ i → i + j ≤ m → wellFormed m u (recordBytes t i j x) 0 ≡ true
   unfolding wellFormed recordBytes sparesZero
-  well-back m u x h i = rw (lt-ltb t u h, i)
+  well-back m u x h y d = rw (lt-ltb t u h, inside-yes m i j y d)
 
--- ---- how long the bytes are
+-- ---- records one after the other: how long they are, and a fold over them
 
-module _ (m : ℕ) where
-  length-place : (t p : ℕ) (v : ℤ) → length (placeBytes m t p v) ≡ 16 * cond (insideAt m p) 1 0
-  unfolding placeBytes recordBytes digits
-  length-place t p v = by-test (insideAt m p) (λ e. rw e) (λ e. rw e)
+-- f k has c k records
+abbrev Records : (ℕ → List ℕ) → (ℕ → ℕ) → Type 0
+Records f c = (k : ℕ) → length (f k) ≡ 16 * c k
 
-  length-kind : (t : ℕ) (a : List ℤ) (p : ℕ) → length (kindBytes m t a p) ≡ 16 * count p (insideAt m)
-  unfolding kindBytes count total
-  length-kind t a zero = refl
-  length-kind t a (suc p) = rw (length-append, length-kind t a p, length-place) (omega arith)
+length-chained : (f : ℕ → List ℕ) (c : ℕ → ℕ) → Records f c → (n : ℕ) → length (chained n f) ≡ 16 * total n c
+unfolding chained total
+length-chained f c h zero = refl
+length-chained f c h (suc n) = rw (length-append, length-chained f c h n, h n) (omega arith)
 
-  pub length-kinds : (s : ℕ → List ℤ) (u : ℕ) → length (kindsBytes m s u) ≡ 16 * (u * count 400 (insideAt m))
-  unfolding kindsBytes
-  length-kinds s zero = omega arith
-  length-kinds s (suc u) = rw (length-append, length-kinds s u, length-kind u (s u) 400) (omega arith)
+module _ {A : Type 0} (M : Monoid A) (G : List ℕ → ℕ → A) (here : Local G) where
+  over-chained : (f : ℕ → List ℕ) (c : ℕ → ℕ) (g : ℕ → A) → Records f c → ((k : ℕ) → over M G (f k) ≡ g k) → (n : ℕ) → over M G (chained n f) ≡ fold M n g
+  unfolding chained over fold
+  over-chained f c g h e zero = refl
+  over-chained f c g h e (suc n) =
+      over-append M G here (chained n f) (f n) (total n c) (length-chained f c h n) ∙ joined M (over-chained f c g h e n) (e n)
 
--- ---- a fold over the records that are written
-
-module _ {A : Type 0} (M : Monoid A) (G : List ℕ → ℕ → A) (here : Local G) (m : ℕ) where
-  -- the part of place p
-  abbrev part : ℕ → List ℤ → ℕ → A
-  part t a p = cond (insideAt m p) (G (recordBytes t p (bits (at a p))) 0) (M .unit)
-
-  over-none : over M G [] ≡ M .unit
-  unfolding over fold
-  over-none = refl
-
-  over-one : (t p x : ℕ) → over M G (recordBytes t p x) ≡ G (recordBytes t p x) 0
+  over-one : (t i j x : ℕ) → over M G (recordBytes t i j x) ≡ G (recordBytes t i j x) 0
   unfolding over fold recordBytes digits
-  over-one t p x = M .left (G (recordBytes t p x) 0)
+  over-one t i j x = M .left (G (recordBytes t i j x) 0)
 
-  over-place : (t p : ℕ) (a : List ℤ) → over M G (placeBytes m t p (at a p)) ≡ part t a p
-  unfolding placeBytes
-  over-place t p a = by-test (insideAt m p) (λ e. rw e (over-one t p (bits (at a p)))) (λ e. rw e over-none)
+-- the cells of year k + 1, and of a triangle
+abbrev inYear : ℕ → ℕ → ℕ
+inYear m k = total (m - k) (λ _. 1)
 
-  over-kind : (t : ℕ) (a : List ℤ) (p : ℕ) → over M G (kindBytes m t a p) ≡ fold M p (part t a)
-  unfolding kindBytes fold
-  over-kind t a zero = over-none
-  over-kind t a (suc p) =
-      over-append M G here (kindBytes m t a p) (placeBytes m t p (at a p)) (count p (insideAt m)) (length-kind m t a p)
-      ∙ joined M (over-kind t a p) (over-place t p a)
+abbrev inKind : ℕ → ℕ
+inKind m = total m (inYear m)
 
-  pub over-kinds : (s : ℕ → List ℤ) (u : ℕ) → over M G (kindsBytes m s u) ≡ fold M u (λ t. fold M 400 (part t (s t)))
-  unfolding kindsBytes fold
-  over-kinds s zero = over-none
-  over-kinds s (suc u) =
-      over-append M G here (kindsBytes m s u) (kindBytes m u (s u) 400) (u * count 400 (insideAt m)) (length-kinds m s u)
-      ∙ joined M (over-kinds s u) (over-kind u (s u) 400)
+counted : every 21 (λ m. eqb (2 * inKind m) (m * (m + 1))) ≡ true
+unfolding every total
+counted = refl
+
+pub in-kind : (m : ℕ) → m ≤ 20 → 2 * inKind m ≡ m * (m + 1)
+in-kind m h = eqb-true _ _ (every-at (λ k. eqb (2 * inKind k) (k * (k + 1))) 21 m counted (omega arith))
+
+pub length-record : (t i j x : ℕ) → length (recordBytes t i j x) ≡ 16
+unfolding recordBytes digits
+length-record t i j x = refl
+
+length-year : (m t : ℕ) (a : List ℤ) → Records (λ k. yearBytes t a (suc k) (m - k)) (inYear m)
+unfolding yearBytes
+length-year m t a k = length-chained (cellBytes t a (suc k)) (λ _. 1) (λ j. length-record t (suc k) j _) (m - k)
 
 -- ---- the set that is written
 
-module _ (m : ℕ) (s : ℕ → List ℤ) (u : ℕ) where
-  -- W of the record of kind t and place p, of all the records that are written
-  module _ {A : Type 0} (M : Monoid A) (W : List ℕ → ℕ → A) (here : Local W) (t p : ℕ) where
-    abbrev G : List ℕ → ℕ → A
-    G = ofCell (M .unit) W t (p / 20 + 1) (p % 20)
+module _ (m : ℕ) (s : ℕ → List ℤ) where
+  abbrev pub kindsBytes : ℕ → List ℕ
+  kindsBytes u = chained u (λ t. kindBytes m t (s t))
 
-    abbrev piece : ℕ → ℕ → A
-    piece k q = cond (insideAt m q) (G (recordBytes k q (bits (at (s k) q))) 0) (M .unit)
+  length-kind : Records (λ t. kindBytes m t (s t)) (λ _. inKind m)
+  unfolding kindBytes
+  length-kind t = length-chained _ (inYear m) (length-year m t (s t)) m
 
-    other-kind : (k q : ℕ) → (k ≡ t → ⊥) → piece k q ≡ M .unit
-    unfolding ofCell isOf recordBytes
-    other-kind k q n = by-test (insideAt m q) (λ e. rw (e, ne-eqb k t n)) (λ e. rw e)
+  pub length-kinds : (u : ℕ) → length (kindsBytes u) ≡ 16 * total u (λ _. inKind m)
+  length-kinds u = length-chained _ _ length-kind u
 
-    other-place : (q : ℕ) → (q ≡ p → ⊥) → piece t q ≡ M .unit
-    unfolding ofCell isOf recordBytes
-    other-place q n =
-        by-test (insideAt m q)
-        (λ e. rw (e, eq-eqb t t refl)
-        (by-test (eqb (q / 20 + 1) (p / 20 + 1))
-        (λ y. let z = eqb-true (q / 20 + 1) (p / 20 + 1) y in rw (y, ne-eqb (q % 20) (p % 20) (λ w. n (omega arith)))) (λ y. rw y)))
-        (λ e. rw e)
-
-    this-place : insideAt m p ≡ true → piece t p ≡ W (recordBytes t p (bits (at (s t) p))) 0
-    unfolding ofCell isOf recordBytes
-    this-place i = rw (i, eq-eqb t t refl, eq-eqb (p / 20 + 1) (p / 20 + 1) refl, eq-eqb (p % 20) (p % 20) refl)
-
-    local : Local G
-    local = ofCell-local (M .unit) W t (p / 20 + 1) (p % 20) here
-
-    -- a cell of the set stands in one record
-    held : t < u → p < 400 → insideAt m p ≡ true → over M G (kindsBytes m s u) ≡ W (recordBytes t p (bits (at (s t) p))) 0
-    held k l i =
-        over-kinds M G local m s u
-        ∙ fold-pick M u t (λ k. fold M 400 (piece k)) k (λ k _ n. fold-unit M 400 (piece k) (λ q _. other-kind k q n))
-        ∙ fold-pick M 400 p (piece t) l (λ q _ n. other-place q n) ∙ this-place i
-
-    -- a kind that is not written stands in none
-    not-held : u ≤ t → over M G (kindsBytes m s u) ≡ M .unit
-    not-held h = over-kinds M G local m s u ∙ fold-unit M u (λ k. fold M 400 (piece k)) (λ k l. fold-unit M 400 (piece k) (λ q _. other-kind k q (λ e. omega arith)))
-
-  -- what holds of each record that is written holds of the file
-  all-hold : (P : List ℕ → ℕ → Bool) → Local P → ((t p : ℕ) → t < u → p < 400 → insideAt m p ≡ true → P (recordBytes t p (bits (at (s t) p))) 0 ≡ true) → over alls P (kindsBytes m s u) ≡ true
-  all-hold P here h =
-      over-kinds alls P here m s u
-      ∙ fold-unit alls u _ (λ t k. fold-unit alls 400 _ (λ p l. by-test (insideAt m p) (λ i. rw i (h t p k l i)) (λ i. rw i)))
-
-  module _ (ok : (t p : ℕ) → t < u → p < 400 → insideAt m p ≡ true → inRange t (at (s t) p) ≡ true) where
+  module _ (u : ℕ) where
     abbrev f : List ℕ
-    f = kindsBytes m s u
+    f = kindsBytes u
 
-    copies-held : (t p : ℕ) → t < u → p < 400 → insideAt m p ≡ true → copies f t (p / 20 + 1) (p % 20) ≡ 1
-    unfolding copies count over ofCell
-    copies-held t p k l i = total-fold _ _ ∙ held totals (λ f k. 1) (λ f k. refl) t p k l i
+    module _ {A : Type 0} (M : Monoid A) (G : List ℕ → ℕ → A) where
+      abbrev piece : ℕ → ℕ → ℕ → A
+      piece t i j = G (cellBytes t (s t) i j) 0
 
-    value-held : (t p : ℕ) → t < u → p < 400 → insideAt m p ≡ true → valueOf f t (p / 20 + 1) (p % 20) ≡ at (s t) p
-    unfolding valueOf over ofCell
-    value-held t p k l i = sum-fold _ _ ∙ held sums valueAt value-local t p k l i ∙ value-back t p (at (s t) p) (ok t p k l i)
+      over-set : Local G → over M G f ≡ fold M u (λ t. fold M m (λ k. fold M (m - k) (piece t (suc k))))
+      unfolding yearBytes kindBytes
+      over-set here =
+          over-chained M G here _ _ _ length-kind
+          (λ t. over-chained M G here _ _ _ (length-year m t (s t))
+          (λ k. over-chained M G here _ (λ _. 1) _ (λ j. length-record t (suc k) j _) (λ j. over-one M G here t (suc k) j _) (m - k)) m) u
 
-    value-none : (t p : ℕ) → u ≤ t → valueOf f t (p / 20 + 1) (p % 20) ≡ pos 0
-    unfolding valueOf over ofCell
-    value-none t p h = sum-fold _ _ ∙ not-held sums valueAt value-local t p h
-
-    pub triangle-held : (t : ℕ) → t < u → triangle m (valueOf f t) ≡ triangle m (cell (s t))
-    unfolding triangle
-    triangle-held t k =
-        tabulate-ext 400 _ _ (λ p l. by-test (insideAt m p) (λ i. rw (i, value-held t p k l i) (sym (cell-place (s t) p))) (λ i. rw i))
-
-    pub triangle-none : (t : ℕ) → u ≤ t → triangle m (valueOf f t) ≡ replicate 400 (pos 0)
-    unfolding triangle
-    triangle-none t h =
-        sym
-        (is-tabulate 400 _ (replicate 400 (pos 0)) (pos 0) (length-replicate 400 (pos 0))
-        (λ p l. getD-replicate 400 p (pos 0) (pos 0) l ∙ by-test (insideAt m p) (λ i. rw (i, value-none t p h)) (λ i. rw i)))
+    -- what holds of each record that is written holds of the file
+    all-hold : (P : List ℕ → ℕ → Bool) → Local P → ((t i j : ℕ) → t < u → 1 ≤ i → i + j ≤ m → P (cellBytes t (s t) i j) 0 ≡ true) → over alls P f ≡ true
+    all-hold P here h =
+        over-set alls P here
+        ∙ fold-unit alls u _ (λ t k. fold-unit alls m _ (λ y l. fold-unit alls (m - y) _ (λ j b. h t (suc y) j k (omega arith) (omega arith))))
 
     pub third : every (records f) (wellFormed m u f) ≡ true
     unfolding over
-    third = every-fold _ _ ∙ all-hold (wellFormed m u) (wellFormed-local m u) (λ t p k l i. well-back t p m u _ k i)
+    third = every-fold _ _ ∙ all-hold (wellFormed m u) (wellFormed-local m u) (λ t i j k l b. well-back t i j m u _ k l b)
 
-    pub fourth : m ≤ 20 → every u (λ t. eachCell m (λ i j. eqb (copies f t i j) 1)) ≡ true
-    fourth small = every-all _ u (λ t k. places-pass m _ small (λ p l i. ap (λ (n : ℕ). eqb n 1) (copies-held t p k l i)))
+    -- W of the record of kind t and cell (i,j), of all the records that are written
+    module _ {A : Type 0} (M : Monoid A) (W : List ℕ → ℕ → A) (here : Local W) (t i j : ℕ) where
+      abbrev G : List ℕ → ℕ → A
+      G = ofCell (M .unit) W t i j
 
-    pub fifth : q5 m f ≡ true
-    unfolding q5 over ranged
-    fifth = every-fold _ _ ∙ all-hold ranged ranged-local (λ t p k l i. ranged-back t p (at (s t) p) (ok t p k l i))
+      other : (k y d : ℕ) → (k ≡ t → y ≡ i → d ≡ j → ⊥) → piece M G k y d ≡ M .unit
+      unfolding ofCell isOf recordBytes
+      other k y d n =
+          by-test (eqb k t && eqb y i && eqb d j)
+          (λ e. let ki = and-left (eqb k t && eqb y i) (eqb d j) e in
+          absurd (n (eqb-true k t (and-left (eqb k t) (eqb y i) ki)) (eqb-true y i (and-right (eqb k t) (eqb y i) ki)) (eqb-true d j (and-right (eqb k t && eqb y i) (eqb d j) e))))
+          (λ e. rw e)
+
+      this : piece M G t i j ≡ W (cellBytes t (s t) i j) 0
+      unfolding ofCell isOf recordBytes
+      this = rw (eq-eqb t t refl, eq-eqb i i refl, eq-eqb j j refl)
+
+      local : Local G
+      local = ofCell-local (M .unit) W t i j here
+
+      -- a cell of the set stands in one record
+      held : t < u → 1 ≤ i → i + j ≤ m → over M G f ≡ W (cellBytes t (s t) i j) 0
+      held k l b =
+          let e : suc (i - 1) ≡ i = omega arith in
+          over-set M G local
+          ∙ fold-pick M u t _ k (λ k _ n. fold-unit M m _ (λ y _. fold-unit M (m - y) _ (λ d _. other k (suc y) d (λ q _ _. n q))))
+          ∙ fold-pick M m (i - 1) _ (omega arith) (λ y _ n. fold-unit M (m - y) _ (λ d _. other t (suc y) d (λ _ q _. n (omega arith))))
+          ∙ fold-pick M (m - (i - 1)) j _ (omega arith) (λ d _ n. other t (suc (i - 1)) d (λ _ _ q. n q)) ∙ rw e this
+
+      -- a kind that is not written stands in none
+      not-held : u ≤ t → over M G f ≡ M .unit
+      not-held h =
+          over-set M G local
+          ∙ fold-unit M u _ (λ k l. fold-unit M m _ (λ y _. fold-unit M (m - y) _ (λ d _. other k (suc y) d (λ q _ _. omega arith))))
+
+    module _ (ok : (t i j : ℕ) → t < u → 1 ≤ i → i + j ≤ m → inRange t (cell (s t) i j) ≡ true) where
+      value-held : (t i j : ℕ) → t < u → 1 ≤ i → i + j ≤ m → valueOf f t i j ≡ cell (s t) i j
+      unfolding valueOf over ofCell
+      value-held t i j k l b = sum-fold _ _ ∙ held sums valueAt value-local t i j k l b ∙ value-back t i j (cell (s t) i j) (ok t i j k l b)
+
+      pub triangle-held : (t : ℕ) → t < u → triangle m (valueOf f t) ≡ triangle m (cell (s t))
+      unfolding triangle
+      triangle-held t k =
+          tabulate-ext 400 _ _
+          (λ p l. by-test (insideAt m p) (λ y. let b = inside-so m (p / 20 + 1) (p % 20) y in rw (y, value-held t (p / 20 + 1) (p % 20) k (b .0) (b .1))) (λ y. rw y))
+
+      pub fifth : q5 m f ≡ true
+      unfolding q5 over ranged
+      fifth = every-fold _ _ ∙ all-hold ranged ranged-local (λ t i j k l b. ranged-back t i j (cell (s t) i j) (ok t i j k l b))
+
+    pub triangle-none : (t : ℕ) → u ≤ t → triangle m (valueOf f t) ≡ replicate 400 (pos 0)
+    unfolding triangle valueOf over ofCell
+    triangle-none t h =
+        sym
+        (is-tabulate 400 _ (replicate 400 (pos 0)) (pos 0) (length-replicate 400 (pos 0))
+        (λ p l. getD-replicate 400 p (pos 0) (pos 0) l
+        ∙ by-test (insideAt m p) (λ y. rw y (sym (sum-fold _ _ ∙ not-held sums valueAt value-local t (p / 20 + 1) (p % 20) h))) (λ y. rw y)))
+
+    pub fourth : every u (λ t. eachCell m (λ i j. eqb (copies f t i j) 1)) ≡ true
+    unfolding copies count over ofCell
+    fourth =
+        every-all _ u (λ t k. eachCell-all m _ (λ i j l b. eq-eqb _ 1 (total-fold _ _ ∙ held totals (λ f k. 1) (λ f k. refl) t i j k l b)))

@@ -1,59 +1,51 @@
-// The cells of a file.
+// The records of a file, each at its place in a lent list.
 use crate::fields;
 use crate::questions;
 ghost use mathlib.Core.Path.{_≡_};
-ghost use Prim.Native.Nat.{_+_, _*_, _≤_, _<_};
+ghost use mathlib.Core.List.{[], _∷_};
+ghost use Prim.Native.Nat.{_*_, _≤_};
 ghost use lib.IntN.{pos};
 ghost use lib.ListN.{length, replicate};
-ghost use Rattle.model.specs.Lists.{at, tabulate};
-ghost use Rattle.triangles.specs.Keys.{Keyed, ByKey};
+ghost use Rattle.model.specs.Questions.{firstNo};
+ghost use Rattle.triangles.specs.Keys.{RecordsRead};
 
-// The answers of questions 4 and 5.
-pub struct CellAnswers {
-    pub once: bool,
-    pub ranged: bool,
+// The first no of questions 4 and 5.
+fn first_no(once: bool, ranged: bool) -> u64
+    ensures { λ r. ⌜ r ≡ firstNo ((4, once) ∷ (5, ranged) ∷ []) ⌝ }
+{
+    if !once {
+        return 4;
+    }
+    if !ranged {
+        return 5;
+    }
+    0
 }
 
-// Question 4, that no key stands twice among the first n records; where none does, question 5 and
-// the values, each at its key, with zeros in the other places. As the file is as long as a set,
-// each cell then stands there once.
-pub fn by_key(file: &[u8], n: usize, values: &mut [i64; 1200]) -> CellAnswers
+// Questions 3 to 5 of the first n records, and the values, each at its key. Question 4 is that no
+// key stands twice: as the file is as long as a set, each cell then stands there once.
+pub fn read_records(file: &[u8], m: usize, kinds: usize, n: usize, set: &mut [i64; 1200]) -> u64
+    requires { ⌜ (m ≤ 20) × (kinds ≤ 3) ⌝ }
     requires { ⌜ 16 * n ≤ length (now file) ⌝ }
-    requires { ⌜ Keyed (now file) n ⌝ }
-    requires { ⌜ now values ≡ replicate 1200 (pos 0) ⌝ }
-    ensures { λ r. ⌜ ByKey (now (file .entry)) n (r .once) (r .ranged) (now (values .exit)) ⌝ }
+    requires { ⌜ now set ≡ replicate 1200 (pos 0) ⌝ }
+    ensures { λ r. ⌜ RecordsRead m kinds (now (file .entry)) n r (now (set .exit)) ⌝ }
 {
     let mut seen = [0u8; 1200];
+    let mut once = true;
     let mut ranged = true;
     let mut k = 0;
     while k < n {
         let h = fields::head(file, k);
-        let q = fields::key(h);
-        if seen[q] != 0 {
-            return CellAnswers {
-                once: false,
-                ranged,
-            };
+        if !questions::record_ok(h, m, kinds) {
+            return 3;
         }
-        seen[q] = 1;
+        let q = fields::key(h);
         let v = fields::value(file, k);
-        values[q] = v;
+        once = once & (seen[q] == 0);
+        seen[q] = 1;
+        set[q] = v;
         ranged = ranged & questions::in_range(h.kind, v);
         k += 1;
     }
-    CellAnswers { once: true, ranged }
-}
-
-// The 400 places of one kind.
-pub fn of_kind(cells: &[i64; 1200], kind: usize) -> [i64; 400]
-    requires { ⌜ kind < 3 ⌝ }
-    ensures { λ r. ⌜ r ≡ tabulate 400 (λ p. at (now (cells .entry)) (400 * kind + p)) ⌝ }
-{
-    let mut out = [0i64; 400];
-    let mut p = 0;
-    while p < 400 {
-        out[p] = cells[400 * kind + p];
-        p += 1;
-    }
-    out
+    first_no(once, ranged)
 }

@@ -2,8 +2,8 @@
 ghost use mathlib.Core.Path.{_≡_};
 ghost use Prim.Native.Nat.{_+_, _-_, _*_, _≤_, _<_};
 ghost use lib.ListN.{length, getD};
-ghost use Rattle.model.specs.Records.{sparesZero, leastFirst, signed, valueAt};
-ghost use Rattle.triangles.specs.OneRecord.{HeadAt};
+ghost use Rattle.model.specs.Records.{signed, valueAt};
+ghost use Rattle.triangles.specs.OneRecord.{Number, HeadAt};
 
 // The byte at a place of the file.
 pub fn byte(file: &[u8], at: usize) -> usize
@@ -16,26 +16,27 @@ pub fn byte(file: &[u8], at: usize) -> usize
 // Numbers of two, four and eight bytes, the lowest in front.
 fn two(file: &[u8], at: usize) -> usize
     requires { ⌜ at + 2 ≤ length (now file) ⌝ }
-    ensures { λ r. ⌜ (r ≡ leastFirst 2 (now (file .entry)) at) × (r < 65536) ⌝ }
+    ensures { λ r. ⌜ Number 2 (now (file .entry)) at r ⌝ }
 {
     byte(file, at) + 256 * byte(file, at + 1)
 }
 
 fn four(file: &[u8], at: usize) -> usize
     requires { ⌜ at + 4 ≤ length (now file) ⌝ }
-    ensures { λ r. ⌜ (r ≡ leastFirst 4 (now (file .entry)) at) × (r < 4294967296) ⌝ }
+    ensures { λ r. ⌜ Number 4 (now (file .entry)) at r ⌝ }
 {
     two(file, at) + 65536 * two(file, at + 2)
 }
 
 fn eight(file: &[u8], at: usize) -> usize
     requires { ⌜ at + 8 ≤ length (now file) ⌝ }
-    ensures { λ r. ⌜ r ≡ leastFirst 8 (now (file .entry)) at ⌝ }
+    ensures { λ r. ⌜ Number 8 (now (file .entry)) at r ⌝ }
 {
     four(file, at) + 4294967296 * four(file, at + 4)
 }
 
-// Bytes 0 to 2 of a record: its kind, its accident year and its delay.
+// The first eight bytes of a record: its kind, its accident year and, as one number with the spare
+// bytes, its delay.
 pub struct RecordHead {
     pub kind: usize,
     pub year: usize,
@@ -46,20 +47,12 @@ pub fn head(file: &[u8], k: usize) -> RecordHead
     requires { ⌜ 16 * k + 16 ≤ length (now file) ⌝ }
     ensures { λ r. ⌜ HeadAt (now (file .entry)) k (r .kind) (r .year) (r .delay) ⌝ }
 {
-    let at = 16 * k;
-    let kind = byte(file, at);
-    let year = byte(file, at + 1);
-    let delay = byte(file, at + 2);
-    RecordHead { kind, year, delay }
-}
-
-// Whether bytes 3 to 7 of a record are zero.
-pub fn spares_zero(file: &[u8], k: usize) -> bool
-    requires { ⌜ 16 * k + 16 ≤ length (now file) ⌝ }
-    ensures { λ r. ⌜ r ≡ sparesZero (now (file .entry)) k ⌝ }
-{
-    let at = 16 * k;
-    four(file, at + 3) + byte(file, at + 7) == 0
+    let w = eight(file, 16 * k);
+    RecordHead {
+        kind: w % 256,
+        year: w / 256 % 256,
+        delay: w / 65536,
+    }
 }
 
 // A word read with a sign.
@@ -83,7 +76,7 @@ pub fn value(file: &[u8], k: usize) -> i64
 
 // The key of a record: 400 times its kind, and the place of its cell.
 pub fn key(h: RecordHead) -> usize
-    requires { ⌜ (h .kind < 256) × (1 ≤ h .year) × (h .year < 256) × (h .delay < 256) ⌝ }
+    requires { ⌜ (h .kind < 3) × (1 ≤ h .year) × (h .year + h .delay ≤ 20) ⌝ }
     ensures { λ r. ⌜ r ≡ 400 * h .kind + (20 * (h .year - 1) + h .delay) ⌝ }
 {
     400 * h.kind + (20 * (h.year - 1) + h.delay)

@@ -5,10 +5,12 @@ mod questions;
 mod writer;
 
 ghost use mathlib.Core.Path.{_≡_};
-ghost use mathlib.Core.Bool.{true};
-ghost use Rattle.model.specs.Records.{records, hasIncurred};
-ghost use Rattle.model.specs.Questions.{q1, q2};
+ghost use Prim.Native.Nat.{_≤_, _<_};
+ghost use lib.IntN.{pos};
+ghost use lib.ListN.{replicate};
+ghost use Rattle.model.specs.Records.{hasIncurred};
 ghost use Rattle.model.specs.Calls.{refusedRead, readAnswer, Wrote};
+ghost use Rattle.model.specs.Lent.{triangleIn, ReadInto};
 
 // A refusal, with zeros beside it.
 fn refused(number: u64) -> model::ReadAnswer
@@ -26,34 +28,43 @@ fn refused(number: u64) -> model::ReadAnswer
     }
 }
 
-// Questions 3 to 5 of a file of n records, and the set that it holds where it is accepted.
-fn read_records(file: &[u8], m: usize, has_incurred: bool, n: usize) -> model::ReadAnswer
-    requires { ⌜ q1 m ≡ true ⌝ }
-    requires { ⌜ q2 m (now file) ≡ true ⌝ }
-    requires { ⌜ «has_incurred» ≡ hasIncurred m (now file) ⌝ }
-    requires { ⌜ n ≡ records (now file) ⌝ }
-    ensures { λ r. ⌜ r ≡ readAnswer m (now (file .entry)) ⌝ }
+// Whether a file's length is that of a set with incurred.
+pub fn has_incurred(file: &[u8], m: usize) -> bool
+    requires { ⌜ m ≤ 20 ⌝ }
+    ensures { λ r. ⌜ r ≡ hasIncurred m (now (file .entry)) ⌝ }
 {
-    let kinds = questions::kinds(has_incurred);
-    if !questions::records_ok(file, m, kinds, n) {
-        return refused(3);
+    file.len() == 16 * questions::set_records(m, true)
+}
+
+// Questions 1 to 5 of a file and, where it is accepted, its set in the lent list, which comes as
+// zeros.
+pub fn read_cells(file: &[u8], m: usize, set: &mut [i64; 1200]) -> u64
+    requires { ⌜ now set ≡ replicate 1200 (pos 0) ⌝ }
+    ensures { λ r. ⌜ ReadInto m (now (file .entry)) r (now (set .exit)) ⌝ }
+{
+    if questions::q1(m) {
+        let incurred = has_incurred(file, m);
+        let n = questions::set_records(m, incurred);
+        if file.len() == 16 * n {
+            return cells::read_records(file, m, questions::kinds(incurred), n, set);
+        }
+        return 2;
     }
-    let mut cells = [0i64; 1200];
-    let answers = cells::by_key(file, n, &mut cells);
-    if !answers.once {
-        return refused(4);
-    }
-    if !answers.ranged {
-        return refused(5);
-    }
-    model::ReadAnswer {
-        refusal: 0,
-        set: model::TriangleSet {
-            has_incurred,
-            counts: cells::of_kind(&cells, 0),
-            paid: cells::of_kind(&cells, 1),
-            incurred: cells::of_kind(&cells, 2),
-        },
+    1
+}
+
+// The triangle of a kind, copied out of a set. The zeros say for the proof what the places hold
+// before.
+pub fn copy_kind(set: &[i64; 1200], kind: usize, out: &mut [i64; 400])
+    requires { ⌜ kind < 3 ⌝ }
+    ensures { λ _. ⌜ now (out .exit) ≡ triangleIn kind (now (set .entry)) ⌝ }
+{
+    let none = [0i64; 400];
+    *out = none;
+    let mut p = 0;
+    while p < 400 {
+        out[p] = set[400 * kind + p];
+        p += 1;
     }
 }
 
@@ -61,30 +72,38 @@ fn read_records(file: &[u8], m: usize, has_incurred: bool, n: usize) -> model::R
 pub fn read_set(file: &[u8], m: usize) -> model::ReadAnswer
     ensures { λ r. ⌜ r ≡ readAnswer m (now (file .entry)) ⌝ }
 {
-    if !questions::q1(m) {
-        return refused(1);
+    let mut set = [0i64; 1200];
+    let refusal = read_cells(file, m, &mut set);
+    if refusal != 0 {
+        return refused(refusal);
     }
-    let two = questions::set_records(m, false);
-    if file.len() == 16 * two {
-        return read_records(file, m, false, two);
+    let mut counts = [0i64; 400];
+    copy_kind(&set, 0, &mut counts);
+    let mut paid = [0i64; 400];
+    copy_kind(&set, 1, &mut paid);
+    let mut incurred = [0i64; 400];
+    copy_kind(&set, 2, &mut incurred);
+    model::ReadAnswer {
+        refusal: 0,
+        set: model::TriangleSet {
+            has_incurred: has_incurred(file, m),
+            counts,
+            paid,
+            incurred,
+        },
     }
-    let three = questions::set_records(m, true);
-    if file.len() == 16 * three {
-        return read_records(file, m, true, three);
-    }
-    refused(2)
 }
 
 // The writer: questions 1, 5 and 7, and the set's records at the front of the output.
-pub fn write_set(
+pub fn write_lent<'a>(
     m: usize,
     has_incurred: bool,
-    counts: [i64; 400],
-    paid: [i64; 400],
-    incurred: [i64; 400],
+    counts: &'a [i64; 400],
+    paid: &'a [i64; 400],
+    incurred: &'a [i64; 400],
     out: &mut [u8],
 ) -> u64
-    ensures { λ r. ⌜ Wrote m «has_incurred» counts paid incurred (now (out .entry)) (now (out .exit)) r ⌝ }
+    ensures { λ r. ⌜ Wrote m «has_incurred» (now (counts .entry)) (now (paid .entry)) (now (incurred .entry)) (now (out .entry)) (now (out .exit)) r ⌝ }
 {
     if !questions::q1(m) {
         return 1;
@@ -97,4 +116,18 @@ pub fn write_set(
     }
     writer::put_set(m, has_incurred, counts, paid, incurred, out);
     0
+}
+
+// The writer, of triangles by value.
+pub fn write_set(
+    m: usize,
+    has_incurred: bool,
+    counts: [i64; 400],
+    paid: [i64; 400],
+    incurred: [i64; 400],
+    out: &mut [u8],
+) -> u64
+    ensures { λ r. ⌜ Wrote m «has_incurred» counts paid incurred (now (out .entry)) (now (out .exit)) r ⌝ }
+{
+    write_lent(m, has_incurred, &counts, &paid, &incurred, out)
 }

@@ -1,10 +1,9 @@
 // The bytes of a set.
-use crate::questions;
 ghost use mathlib.Core.Path.{_≡_};
 ghost use Prim.Native.Nat.{_+_, _≤_, _<_};
 ghost use lib.ListN.{length};
 ghost use Rattle.model.specs.Overlay.{overlay};
-ghost use Rattle.triangles.specs.Written.{bits, recordBytes, placeBytes, kindBytes, setBytes};
+ghost use Rattle.triangles.specs.Written.{bits, recordBytes, yearBytes, kindBytes, setBytes};
 
 // The bits of a signed number.
 fn to_bits(v: i64) -> usize
@@ -17,10 +16,10 @@ fn to_bits(v: i64) -> usize
     18446744073709551615 - (y as usize)
 }
 
-// The bytes of a record: its kind, its place, and the bits of its value.
-fn record_bytes(kind: usize, p: usize, x: usize) -> [u8; 16]
-    requires { ⌜ (kind < 3) × (p < 400) ⌝ }
-    ensures { λ r. ⌜ r ≡ recordBytes kind p x ⌝ }
+// The bytes of a record: its kind, its accident year and delay, and the bits of its value.
+fn record_bytes(kind: usize, year: usize, delay: usize, x: usize) -> [u8; 16]
+    requires { ⌜ (kind < 3) × (year ≤ 20) × (delay < 20) ⌝ }
+    ensures { λ r. ⌜ r ≡ recordBytes kind year delay x ⌝ }
 {
     let x1 = x / 256;
     let x2 = x1 / 256;
@@ -31,8 +30,8 @@ fn record_bytes(kind: usize, p: usize, x: usize) -> [u8; 16]
     let x7 = x6 / 256;
     [
         kind as u8,
-        (p / 20 + 1) as u8,
-        (p % 20) as u8,
+        year as u8,
+        delay as u8,
         0,
         0,
         0,
@@ -61,48 +60,60 @@ fn put(out: &mut [u8], a: usize, bytes: [u8; 16])
     }
 }
 
-// Writes the record of a kind at place p, where p is a cell, and hands back the index after it.
-fn put_place(out: &mut [u8], a: usize, m: usize, kind: usize, p: usize, v: i64) -> usize
-    requires { ⌜ (kind < 3) × (p < 400) ⌝ }
-    requires { ⌜ a + length (placeBytes m kind p v) ≤ length (now out) ⌝ }
-    ensures { λ r. ⌜ r ≡ a + length (placeBytes m kind p v) ⌝ }
-    ensures { λ _. ⌜ now (out .exit) ≡ overlay (now (out .entry)) a (placeBytes m kind p v) ⌝ }
+// Writes the records of the first n cells of a year from index a on, and hands back the index
+// after them.
+fn put_year(
+    out: &mut [u8],
+    a: usize,
+    kind: usize,
+    cells: &[i64; 400],
+    year: usize,
+    n: usize,
+) -> usize
+    requires { ⌜ (kind < 3) × (1 ≤ year) × (year ≤ 20) × (n ≤ 20) ⌝ }
+    requires { ⌜ a + length (yearBytes kind (now cells) year n) ≤ length (now out) ⌝ }
+    ensures { λ r. ⌜ r ≡ a + length (yearBytes kind (now (cells .entry)) year n) ⌝ }
+    ensures { λ _. ⌜ now (out .exit) ≡ overlay (now (out .entry)) a (yearBytes kind (now (cells .entry)) year n) ⌝ }
 {
-    if questions::inside(m, p) {
-        put(out, a, record_bytes(kind, p, to_bits(v)));
-        return a + 16;
+    let mut next = a;
+    let mut j = 0;
+    while j < n {
+        let v = cells[20 * (year - 1) + j];
+        put(out, next, record_bytes(kind, year, j, to_bits(v)));
+        next += 16;
+        j += 1;
     }
-    a
+    next
 }
 
 // Writes the cells of a kind from index a on, and hands back the index after them.
-fn put_kind(out: &mut [u8], a: usize, m: usize, kind: usize, cells: [i64; 400]) -> usize
-    requires { ⌜ kind < 3 ⌝ }
-    requires { ⌜ a + length (kindBytes m kind cells 400) ≤ length (now out) ⌝ }
-    ensures { λ r. ⌜ r ≡ a + length (kindBytes m kind cells 400) ⌝ }
-    ensures { λ _. ⌜ now (out .exit) ≡ overlay (now (out .entry)) a (kindBytes m kind cells 400) ⌝ }
+fn put_kind(out: &mut [u8], a: usize, m: usize, kind: usize, cells: &[i64; 400]) -> usize
+    requires { ⌜ (m ≤ 20) × (kind < 3) ⌝ }
+    requires { ⌜ a + length (kindBytes m kind (now cells)) ≤ length (now out) ⌝ }
+    ensures { λ r. ⌜ r ≡ a + length (kindBytes m kind (now (cells .entry))) ⌝ }
+    ensures { λ _. ⌜ now (out .exit) ≡ overlay (now (out .entry)) a (kindBytes m kind (now (cells .entry))) ⌝ }
 {
     let mut next = a;
-    let mut p = 0;
-    while p < 400 {
-        let v = cells[p];
-        next = put_place(out, next, m, kind, p, v);
-        p += 1;
+    let mut k = 0;
+    while k < m {
+        next = put_year(out, next, kind, cells, k + 1, m - k);
+        k += 1;
     }
     next
 }
 
 // Writes a set at the front of the output.
-pub fn put_set(
+pub fn put_set<'a>(
     m: usize,
     has_incurred: bool,
-    counts: [i64; 400],
-    paid: [i64; 400],
-    incurred: [i64; 400],
+    counts: &'a [i64; 400],
+    paid: &'a [i64; 400],
+    incurred: &'a [i64; 400],
     out: &mut [u8],
 )
-    requires { ⌜ length (setBytes m «has_incurred» counts paid incurred) ≤ length (now out) ⌝ }
-    ensures { λ _. ⌜ now (out .exit) ≡ overlay (now (out .entry)) 0 (setBytes m «has_incurred» counts paid incurred) ⌝ }
+    requires { ⌜ m ≤ 20 ⌝ }
+    requires { ⌜ length (setBytes m «has_incurred» (now counts) (now paid) (now incurred)) ≤ length (now out) ⌝ }
+    ensures { λ _. ⌜ now (out .exit) ≡ overlay (now (out .entry)) 0 (setBytes m «has_incurred» (now (counts .entry)) (now (paid .entry)) (now (incurred .entry))) ⌝ }
 {
     let second = put_kind(out, 0, m, 0, counts);
     let third = put_kind(out, second, m, 1, paid);

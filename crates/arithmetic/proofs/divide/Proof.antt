@@ -13,12 +13,6 @@ module _ (c : tie.Start) where
   first : c .args .p .top / c .args .d < 65536
   first = div-lt-iff-lt-mul some .1 (omega arith)
 
-div-next-digit : tie.Need-div-next-digit
-div-next-digit c = search needs
-
-rem-next-digit : tie.Need-rem-next-digit
-rem-next-digit c = search needs
-
 next-digit-requires : tie.Need-next-digit-requires
 next-digit-requires c κs =
     let s = c .before .before in
@@ -37,4 +31,4 @@ returns c =
 pub divide-spec : {M : Type 1} → statement M
 divide-spec =
     tie.close
-    (tie.spec div-next-digit rem-next-digit next-digit-requires next-digit-requires-2 returns)
+    (tie.spec (λ c. search needs) (λ c. search needs) next-digit-requires next-digit-requires-2 returns)

@@ -12,17 +12,8 @@ use Rattle.arithmetic.specs.Words.{abs-read}
 use Rattle.arithmetic.proofs.is_narrow.Statement.{statement}
 use Rattle.arithmetic.proofs.is_narrow.Tie as tie
 
-magnitude-requires : tie.Need-magnitude-requires
-magnitude-requires c κs = search needs
-
-mul-if1 : tie.Need-mul-if1
-mul-if1 c = search needs
-
 returns : tie.Need-returns
 returns c e = absurd (true≢false (sym e))
-
-magnitude-requires-2 : tie.Need-magnitude-requires-2
-magnitude-requires-2 c κs = search needs
 
 returns-2 : tie.Need-returns-2
 returns-2 c e =
@@ -34,4 +25,4 @@ returns-2 c e =
 
 pub is-narrow-spec : {M : Type 1} → statement M
 is-narrow-spec =
-    tie.close (tie.spec magnitude-requires mul-if1 returns magnitude-requires-2 returns-2)
+    tie.close (tie.spec (λ c κs. search needs) (λ c. search needs) returns (λ c κs. search needs) returns-2)

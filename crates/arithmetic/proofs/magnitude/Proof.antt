@@ -74,26 +74,5 @@ not-negated (negsuc n) h t = absurd (subst T (rw (toZ-ofZ h) at t) tt)
 below : (c : tie.Then1) → Negated (c .before .args .a)
 below c = negated (c .before .args .a) (c .before .fits .a) (c .if1 .taken)
 
-add-above : tie.Need-add-above
-add-above c = below c .up
-
-sub-result : tie.Need-sub-result
-sub-result c = below c .down
-
-cast-result : tie.Need-cast-result
-cast-result c = (below c .not-negative, below c .fits)
-
-add-result : tie.Need-add-result
-add-result c = below c .more
-
-returns : tie.Need-returns
-returns c = below c .is
-
-cast-result-2 : tie.Need-cast-result-2
-cast-result-2 c = not-negated (c .before .args .a) (c .before .fits .a) (c .if1 .left)
-
-returns-2 : tie.Need-returns-2
-returns-2 c = search needs
-
 pub magnitude-spec : {M : Type 1} → statement M
-magnitude-spec = tie.close (tie.spec add-above sub-result cast-result add-result returns cast-result-2 returns-2)
+magnitude-spec = tie.close (tie.spec (λ c. below c .up) (λ c. below c .down) (λ c. (below c .not-negative, below c .fits)) (λ c. below c .more) (λ c. below c .is) (λ c. not-negated (c .before .args .a) (c .before .fits .a) (c .if1 .left)) (λ c. search needs))

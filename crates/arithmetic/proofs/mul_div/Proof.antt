@@ -7,9 +7,6 @@ use Rattle.arithmetic.specs.Words.{abs-read}
 use Rattle.arithmetic.proofs.mul_div.Statement.{statement}
 use Rattle.arithmetic.proofs.mul_div.Tie as tie
 
-is-narrow-requires : tie.Need-is-narrow-requires
-is-narrow-requires c κs = search needs
-
 round-narrow-requires : tie.Need-round-narrow-requires
 round-narrow-requires c κs =
     let s = c .before .before in
@@ -20,9 +17,6 @@ returns c =
     let s = c .before .before .before in
     toZ-ofZ (record { sfits = c .round-narrow .ok })
     ∙ rw (toZ-ofZ (s .fits .a), toZ-ofZ (s .fits .x), toZ-ofZ (s .fits .d)) at (c .round-narrow .ensures)
-
-wide-product-requires : tie.Need-wide-product-requires
-wide-product-requires c κs = search needs
 
 round-wide-requires : tie.Need-round-wide-requires
 round-wide-requires c κs =
@@ -40,9 +34,9 @@ pub mul-div-spec : {M : Type 1} → statement M
 mul-div-spec =
     tie.close
     (tie.spec
-    is-narrow-requires
+    (λ c κs. search needs)
     round-narrow-requires
     returns
-    wide-product-requires
+    (λ c κs. search needs)
     round-wide-requires
     returns-2)

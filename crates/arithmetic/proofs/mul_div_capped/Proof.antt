@@ -22,16 +22,10 @@ product-is c =
 d-is : (c : tie.After-magnitude) → c .magnitude .result ≡ natAbs (c .before .before .before .before .before .args .d)
 d-is c = c .magnitude .ensures ∙ abs-read (c .before .before .before .before .before .fits .d)
 
-is-narrow-requires : tie.Need-is-narrow-requires
-is-narrow-requires c κs = search needs
-
 round-narrow-requires : tie.Need-round-narrow-requires
 round-narrow-requires c κs =
     let s = c .before .before in
     (c .before .is-narrow .ensures (c .if1 .taken), rw (toZ-ofZ (s .fits .d)) (s .pre .2), omega (arith, abs-read (s .fits .d)))
-
-up-to-requires : tie.Need-up-to-requires
-up-to-requires c κs = search needs
 
 returns : tie.Need-returns
 returns c =
@@ -40,12 +34,6 @@ returns c =
     c .up-to .ensures
     ∙ ap (capped (s .args .cap)) (toZ-ofZ (record { sfits = n .round-narrow .ok })
     ∙ rw (toZ-ofZ (s .fits .a), toZ-ofZ (s .fits .x), toZ-ofZ (s .fits .d)) at (n .round-narrow .ensures))
-
-wide-product-requires : tie.Need-wide-product-requires
-wide-product-requires c κs = search needs
-
-magnitude-requires : tie.Need-magnitude-requires
-magnitude-requires c κs = search needs
 
 returns-2 : tie.Need-returns-2
 returns-2 c =
@@ -60,9 +48,6 @@ round-wide-requires c κs =
     let s = w .before .before .before in
     (w .wide-product .ensures, rw (toZ-ofZ (s .fits .d)) (omega (arith, d-is (c .before)), s .pre .2, s .pre .3))
 
-up-to-requires-2 : tie.Need-up-to-requires-2
-up-to-requires-2 c κs = search needs
-
 returns-3 : tie.Need-returns-3
 returns-3 c =
     let n = c .before in
@@ -75,13 +60,13 @@ pub mul-div-capped-spec : {M : Type 1} → statement M
 mul-div-capped-spec =
     tie.close
     (tie.spec
-    is-narrow-requires
+    (λ c κs. search needs)
     round-narrow-requires
-    up-to-requires
+    (λ c κs. search needs)
     returns
-    wide-product-requires
-    magnitude-requires
+    (λ c κs. search needs)
+    (λ c κs. search needs)
     returns-2
     round-wide-requires
-    up-to-requires-2
+    (λ c κs. search needs)
     returns-3)

@@ -57,9 +57,6 @@ module _ (c : tie.Start) where
 div-round-quotient : tie.Need-div-round-quotient
 div-round-quotient c = (parts c .some, rw (toZ-ofZ (c .fits .a), toZ-ofZ (c .fits .b)) (quot-fits c))
 
-rem-round-quotient : tie.Need-rem-round-quotient
-rem-round-quotient c = div-round-quotient c
-
 round-quotient-requires : tie.Need-round-quotient-requires
 round-quotient-requires c κs =
     rw (toZ-ofZ (c .fits .a), toZ-ofZ (c .fits .b), toZ-ofZ (quot-fits c), toZ-ofZ (rem-fits c))
@@ -74,4 +71,4 @@ returns c =
 
 pub round-div-spec : {M : Type 1} → statement M
 round-div-spec =
-    tie.close (tie.spec div-round-quotient rem-round-quotient round-quotient-requires returns)
+    tie.close (tie.spec div-round-quotient (λ c. div-round-quotient c) round-quotient-requires returns)

@@ -12,9 +12,6 @@ use Rattle.arithmetic.proofs.round_narrow.Tie as tie
 product-fits : (c : tie.Start) → SFits w64 (c .args .a *ℤ c .args .x)
 product-fits c = fits-abs (omega (arith, c .pre .0))
 
-mul-round-div : tie.Need-mul-round-div
-mul-round-div c = rw (toZ-ofZ (c .fits .a), toZ-ofZ (c .fits .x)) (product-fits c)
-
 round-div-requires : tie.Need-round-div-requires
 round-div-requires c κs =
     rw (toZ-ofZ (c .fits .a), toZ-ofZ (c .fits .x), toZ-ofZ (c .fits .d), toZ-ofZ (product-fits c)) (c .pre .1, omega arith, omega (arith, c .pre .0))
@@ -26,4 +23,4 @@ returns c =
     ∙ rw (toZ-ofZ (s .fits .a), toZ-ofZ (s .fits .x), toZ-ofZ (s .fits .d), toZ-ofZ (product-fits s)) at (c .round-div .ensures)
 
 pub round-narrow-spec : {M : Type 1} → statement M
-round-narrow-spec = tie.close (tie.spec mul-round-div round-div-requires returns)
+round-narrow-spec = tie.close (tie.spec (λ c. rw (toZ-ofZ (c .fits .a), toZ-ofZ (c .fits .x)) (product-fits c)) round-div-requires returns)

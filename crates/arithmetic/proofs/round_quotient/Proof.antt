@@ -33,21 +33,6 @@ module _ (c : tie.Start) where
   next-fits : SFits w64 (c .args .q +ℤ pos 1)
   next-fits = fits-abs (omega (arith, natAbs-+ℤ (c .args .q) (pos 1)))
 
-sub-if2 : tie.Need-sub-if2
-sub-if2 c = rw (toZ-ofZ (c .before .fits .rem)) (neg-fits (c .before))
-
-add-if2 : tie.Need-add-if2
-add-if2 c = rw (toZ-ofZ (c .before .fits .d), toZ-ofZ (c .before .fits .rem)) (sum-fits (c .before))
-
-sub-result : tie.Need-sub-result
-sub-result c = rw (toZ-ofZ (c .before .before .fits .q)) (previous-fits (c .before .before))
-
-sub-if3 : tie.Need-sub-if3
-sub-if3 c = rw (toZ-ofZ (c .before .fits .d), toZ-ofZ (c .before .fits .rem)) (less-fits (c .before))
-
-add-result : tie.Need-add-result
-add-result c = rw (toZ-ofZ (c .before .before .fits .q)) (next-fits (c .before .before))
-
 -- |rem| < d, as two orders
 below : (c d : ℤ) → pos 0 ⋖ d → natAbs c < natAbs d → (negℤ d ⋖ c) × (c ⋖ d)
 below c (negsuc d) h l = absurd (h .lt)
@@ -102,4 +87,4 @@ returns-4 c =
 pub round-quotient-spec : {M : Type 1} → statement M
 round-quotient-spec =
     tie.close
-    (tie.spec sub-if2 add-if2 sub-result sub-if3 add-result returns returns-2 returns-3 returns-4)
+    (tie.spec (λ c. rw (toZ-ofZ (c .before .fits .rem)) (neg-fits (c .before))) (λ c. rw (toZ-ofZ (c .before .fits .d), toZ-ofZ (c .before .fits .rem)) (sum-fits (c .before))) (λ c. rw (toZ-ofZ (c .before .before .fits .q)) (previous-fits (c .before .before))) (λ c. rw (toZ-ofZ (c .before .fits .d), toZ-ofZ (c .before .fits .rem)) (less-fits (c .before))) (λ c. rw (toZ-ofZ (c .before .before .fits .q)) (next-fits (c .before .before))) returns returns-2 returns-3 returns-4)

@@ -12,12 +12,6 @@ use Rattle.arithmetic.proofs.round_wide.Tie as tie
 d-is : (c : tie.After-magnitude) → c .magnitude .result ≡ natAbs (c .before .args .d)
 d-is c = c .magnitude .ensures ∙ abs-read (c .before .fits .d)
 
-magnitude-requires : tie.Need-magnitude-requires
-magnitude-requires c κs = search needs
-
-divide-requires : tie.Need-divide-requires
-divide-requires c κs = omega (arith, d-is c)
-
 round-signed-requires : tie.Need-round-signed-requires
 round-signed-requires c κs =
     let s = c .before .before in
@@ -32,4 +26,4 @@ returns c =
 
 pub round-wide-spec : {M : Type 1} → statement M
 round-wide-spec =
-    tie.close (tie.spec magnitude-requires divide-requires round-signed-requires returns)
+    tie.close (tie.spec (λ c κs. search needs) (λ c κs. omega (arith, d-is c)) round-signed-requires returns)

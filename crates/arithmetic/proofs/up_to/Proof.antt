@@ -13,14 +13,8 @@ use Rattle.arithmetic.proofs.up_to.Tie as tie
 k-is : (c : tie.After-magnitude) → c .magnitude .result ≡ natAbs (c .before .args .k)
 k-is c = c .magnitude .ensures ∙ abs-read (c .before .fits .k)
 
-magnitude-requires : tie.Need-magnitude-requires
-magnitude-requires c κs = search needs
-
-returns : tie.Need-returns
-returns c = sym (capped-over _ _ (omega (arith, k-is (c .before))))
-
 returns-2 : tie.Need-returns-2
 returns-2 c = ap Within (toZ-ofZ (c .before .before .fits .k)) ∙ sym (capped-within _ _ (omega (arith, k-is (c .before))))
 
 pub up-to-spec : {M : Type 1} → statement M
-up-to-spec = tie.close (tie.spec magnitude-requires returns returns-2)
+up-to-spec = tie.close (tie.spec (λ c κs. search needs) (λ c. sym (capped-over _ _ (omega (arith, k-is (c .before))))) returns-2)

@@ -27,23 +27,5 @@ module _ (c : tie.Start) where
   top : c .args .a * (c .args .x / 65536 / 65536) ≤ 281474976710655 * 65535
   top = one _ _ (c .pre .0) (omega arith)
 
-mul-low : tie.Need-mul-low
-mul-low c = omega (arith, low c)
-
-mul-mid : tie.Need-mul-mid
-mul-mid c = omega (arith, mid c)
-
-add-mid : tie.Need-add-mid
-add-mid c = omega (arith, mid c, low c)
-
-mul-t7 : tie.Need-mul-t7
-mul-t7 c = omega (arith, top c)
-
-add-t9 : tie.Need-add-t9
-add-t9 c = omega (arith, top c, mid c, low c)
-
-returns : tie.Need-returns
-returns c = (omega (arith, all (c .args .a) (c .args .x)), omega arith, omega arith)
-
 pub widening-mul-spec : {M : Type 1} → statement M
-widening-mul-spec = tie.close (tie.spec mul-low mul-mid add-mid mul-t7 add-t9 returns)
+widening-mul-spec = tie.close (tie.spec (λ c. omega (arith, low c)) (λ c. omega (arith, mid c)) (λ c. omega (arith, mid c, low c)) (λ c. omega (arith, top c)) (λ c. omega (arith, top c, mid c, low c)) (λ c. (omega (arith, all (c .args .a) (c .args .x)), omega arith, omega arith)))

@@ -1,147 +1,143 @@
--- `test_set` meets its contract: the forecast of the cut set, and then the errors. Assumes nothing.
-use mathlib.Core.Path.{_≡_, refl, sym, _∙_, ap}
+-- `test_set` meets its contract: what the cells of the cut set are made of, their gaps, and then
+-- the errors. Assumes nothing.
+use mathlib.Core.Path.{_≡_, refl, sym, _∙_, ap, subst}
+use mathlib.Core.Bool.{Bool, true}
 use mathlib.Core.List.{List}
 use Prim.Native.Nat.{ℕ, _-_, _≤_}
 use native.Mathlib.Omega.{arith}
 use borrow.Author.Needs.{needs}
+use denote.Ref.{now}
 use lib.IntN.{ℤ}
-use Rattle.model.specs.BackTest.{cutTo}
-use Rattle.model.specs.Calls.{zeros}
-use Rattle.model.specs.CallsLaws.{number-of}
+use Rattle.model.specs.Cells.{rbns, ibnr}
+use Rattle.model.specs.Calls.{refusedBackTest}
+use Rattle.model.specs.Lent.{lentSet, triangleIn}
 use Rattle.model.specs.declared.TriangleSet.{TriangleSet}
-use Rattle.model.specs.declared.ForecastAnswer.{ForecastAnswer}
-use Rattle.forecast.specs.SetForecast.{setRefusal, setAnswer, setOutput}
-use Rattle.back_test.specs.Gaps.{Forecast, SmallGaps}
+use Rattle.chain_ladder.specs.DevelopedLaws.{counts-ready}
+use Rattle.chain_ladder.specs.LadderLaws.{ladder-ready}
+use Rattle.cells.specs.Ready.{Ready}
+use Rattle.forecast.specs.SetForecast.{InRange, Given, methodRefusal, setRefusal}
+use Rattle.forecast.specs.SetForecastLaws.{by-pair, by-method, lent-passed, lent-delays, is-given, years-ready, years-cell}
+use Rattle.back_test.specs.Gaps.{SmallGaps}
 use Rattle.back_test.specs.GapsLaws.{gaps-small}
-use Rattle.back_test.specs.TestLaws.{test-no, test-yes, sizes, known-valid, known-six, room, forecast-so}
+use Rattle.back_test.specs.SetTest.{setTest}
+use Rattle.back_test.specs.TestLaws.{test-no, test-yes, sizes, cut-ok, cut-refusal}
 use Rattle.back_test.proofs.test_set.Statement.{statement}
 use Rattle.back_test.proofs.test_set.Tie as tie
 
-module _ (s : tie.Start) where
+module _ (a : tie.Start) where
   abbrev m : ℕ
-  m = s .args .m
-
-  abbrev cut-off : ℕ
-  cut-off = s .args .c
+  m = a .args .m
 
   abbrev n : ℕ
-  n = m - cut-off
+  n = m - a .args .c
 
-  abbrev set : TriangleSet
-  set = s .args .t1
+  abbrev s : Bool → TriangleSet
+  s has = lentSet has (now (a .args .set))
 
-  some : (2 ≤ n) × (n ≤ 20) × (cut-off ≤ 20)
-  some = sizes m set cut-off (s .args .method) (s .args .basis) (s .pre .0) (s .pre .1) (s .pre .2) (s .pre .3)
+  ok : InRange n (now (a .args .set)) (a .args .method)
+  ok = cut-ok (a .pre .0) (a .pre .1) (a .pre .2)
 
-module _ (c : tie.After-forecast-set) where
-  abbrev start : tie.Start
-  start = c .before .before .before
+  -- a refusal of the lent set at size n is that of the cut set
+  refused : (has : Bool) (k : ℕ) → (k ≡ 0 → ⊥) → setRefusal n (s has) (a .args .method) ≡ k → setTest m (s has) (a .args .c) (a .args .method) (a .args .basis) ≡ refusedBackTest k
+  refused has k o e = test-no m (s has) (a .args .c) (a .args .method) (a .args .basis) k o (cut-refusal (a .pre .0) (a .pre .1) (a .pre .2) has ∙ e)
 
-  abbrev known : TriangleSet
-  known = cutTo (n start) (set start)
-
-  known-is : c .before .before .cut .result ≡ known
-  known-is = c .before .before .cut .ensures
-
-  answer-is : c .forecast-set .result ≡ setAnswer (n start) (c .before .before .cut .result) (start .args .method)
-  answer-is = c .forecast-set .ensures .0
-
-  refusal-is : setRefusal (n start) known (start .args .method) ≡ c .forecast-set .result .refusal
-  refusal-is =
-      sym (ap (λ (a : ForecastAnswer). a .refusal) (answer-is ∙ ap (λ (t : TriangleSet). setAnswer (n start) t (start .args .method)) known-is)
-      ∙ number-of (setRefusal (n start) known (start .args .method)) _ _ (λ (a : ForecastAnswer). a .refusal) refl refl)
-
-  abbrev output : List ℤ
-  output = c .forecast-set .last .1 .1 .1 .1 .0
-
-  output-is : output ≡ setOutput (n start) known (start .args .method) (start .args .basis) (zeros 1560)
-  output-is = c .forecast-set .ensures .1 ∙ ap (λ (t : TriangleSet). setOutput (n start) t (start .args .method) (start .args .basis) (zeros 1560)) known-is
-
--- the cut set is accepted
-module _ (c : tie.Else1) where
-  abbrev done : tie.After-forecast-set
-  done = c .before .before .before
-
-  accepted : setRefusal (n (start done)) (known done) (start done .args .method) ≡ 0
-  accepted = refusal-is done ∙ c .if1 .left
-
-  forecast-is : Forecast (m (start done)) (n (start done)) (output done) (set (start done) .paid)
-  forecast-is =
-      let s = start done in
-      forecast-so (m s) (set s) (cut-off s) (s .args .method) (s .args .basis) (s .pre .0) (s .pre .1) (s .pre .2) (s .pre .3) accepted (output done) (output-is done) (done .forecast-set .kept .1 .1 .1 .1 .0)
-
-small : (c : tie.After-gaps) → SmallGaps (c .gaps .result)
-small c = let e = c .before .before .before .before in rw (c .gaps .ensures) (gaps-small _ _ _ _ (forecast-is e))
-
-sub-n : tie.Need-sub-n
-sub-n c = search needs
-
-cut-requires : tie.Need-cut-requires
-cut-requires c κs = some c .1
-
-slice-aggregate-forecast-set : tie.Need-slice-aggregate-forecast-set
-slice-aggregate-forecast-set c = search needs
-
-forecast-set-requires : tie.Need-forecast-set-requires
-forecast-set-requires c κs =
-    let s = c .before .before in
-    let k = c .before .cut .ensures in
-    rw k (
-      known-valid (m s) (set s) (cut-off s) (s .args .method) (s .args .basis) (s .pre .0) (s .pre .1) (s .pre .2) (s .pre .3),
-      known-six (m s) (set s) (cut-off s) (s .args .method) (s .args .basis) (s .pre .0) (s .pre .1) (s .pre .2) (s .pre .3),
-      room (m s) (set s) (cut-off s) (s .args .method) (s .args .basis) (s .pre .0) (s .pre .1) (s .pre .2) (s .pre .3),
-    )
-
-refused-requires : tie.Need-refused-requires
-refused-requires c κs = search needs
+abbrev start : tie.After-prepare → tie.Start
+start c = c .before .before .before .before .before .before
 
 returns : tie.Need-returns
-returns c =
-    let w = c .before .before .before .before in
-    let s = start w in
-    c .refused .ensures ∙ sym (test-no (m s) (set s) (cut-off s) (s .args .method) (s .args .basis) (w .forecast-set .result .refusal) (c .before .if1 .taken) (refusal-is w))
+returns c has =
+    let b = c .before .before in
+    let a = start b in
+    let e = b .prepare .ensures .refusal in
+    let o = c .before .if1 .taken in
+    c .refused .ensures ∙ sym (refused a has _ o (by-pair (n a) (s a has) (a .args .method) (λ z. o (e ∙ z)) ∙ sym e))
 
-slice-aggregate-gaps : tie.Need-slice-aggregate-gaps
-slice-aggregate-gaps c = search needs
+-- the questions of the delays are passed
+module _ (e : tie.Else1) where
+  abbrev one : tie.After-prepare
+  one = e .before
 
-gaps-requires : tie.Need-gaps-requires
-gaps-requires c κs = forecast-is (c .before .before .before)
+  given : Given (n (start one)) (now (start one .args .set)) (start one .args .method) (one .prepare .last .1 .1 .0) (one .prepare .last .1 .1 .1 .0) (one .prepare .last .1 .1 .1 .1 .0) (one .prepare .last .1 .1 .1 .1 .1 .0) (one .prepare .last .1 .1 .1 .1 .1 .1 .0)
+  given = is-given (ok (start one)) (one .prepare .ensures) (e .if1 .left)
 
-cell-number-requires : tie.Need-cell-number-requires
-cell-number-requires c κs = let s = some (start (done (c .before .before .before .before))) in (omega arith, s .1)
+  passed : (has : Bool) → setRefusal (n (start one)) (s (start one) has) (start one .args .method) ≡ methodRefusal (n (start one)) (s (start one) has) (start one .args .method)
+  passed has = let a = start one in by-method (n a) (s a has) (a .args .method) (lent-passed (ok a) (one .prepare .ensures) (e .if1 .left))
 
-cellwise-requires : tie.Need-cellwise-requires
-cellwise-requires c κs = let g = c .before .before in (small g, some (start (done (g .before .before .before .before))) .1)
+module _ (c : tie.After-method-bases) where
+  abbrev two : tie.Else1
+  two = c .before .before .before .before .before
 
-yearwise-requires : tie.Need-yearwise-requires
-yearwise-requires c κs = let g = c .before .before .before .before in let s = some (start (done (g .before .before .before .before))) in (small g, s .1, s .2)
+  abbrev a : tie.Start
+  a = start (one two)
 
-overall-requires : tie.Need-overall-requires
-overall-requires c κs = let g = c .before .before .before .before .before .before in (small g, some (start (done (g .before .before .before .before))) .1)
+  number : (has : Bool) → setRefusal (n a) (s a has) (a .args .method) ≡ c .method-bases .result
+  unfolding methodRefusal
+  number has = passed two has ∙ sym (c .method-bases .ensures has .refusal)
 
 returns-2 : tie.Need-returns-2
-returns-2 c =
-    let g = c .before .before .before .before .before .before .before in
-    let e = g .before .before .before .before in
-    let w = done e in
-    let s = start w in
-    test-yes (m s) (set s) (cut-off s) (s .args .method) (s .args .basis) (s .pre .0) (s .pre .1) (s .pre .2) (s .pre .3) (accepted e) (output w) (output-is w)
-    (g .gaps .ensures) (c .before .before .before .before .before .before .cell-number .ensures) (c .before .before .before .before .cellwise .ensures) (c .before .before .yearwise .ensures) (c .overall .ensures)
+returns-2 c has = let b = c .before .before in c .refused2 .ensures ∙ sym (refused (a b) has _ (c .before .if2 .taken) (number b has))
+
+-- those of the method too
+module _ (c : tie.After-shares-of) where
+  abbrev else2 : tie.Else2
+  else2 = c .before .before
+
+  abbrev made : tie.After-method-bases
+  made = else2 .before
+
+  ready : Ready (n (a made)) (triangleIn 0 (now (a made .args .set))) (c .shares-of .result) (one (two made) .prepare .last .1 .1 .1 .0) (one (two made) .prepare .last .1 .1 .0) (made .method-bases .last .1 .1 .1 .1 .1 .0) (one (two made) .prepare .last .1 .1 .1 .1 .1 .1 .0)
+  ready = years-ready (given (two made)) true (made .method-bases .ensures true) (else2 .if2 .left) (c .shares-of .ensures)
+
+gaps-requires : tie.Need-gaps-requires
+gaps-requires c κs =
+    let r = c .before .before .before .before .before .before in
+    let b = a (made r) in
+    (sizes (b .pre .0) (b .pre .1) (b .pre .2), ready r, refl)
+
+module _ (c : tie.After-gaps) where
+  abbrev shared : tie.After-shares-of
+  shared = c .before .before .before .before .before .before .before
+
+  abbrev base : tie.Start
+  base = a (made shared)
+
+  small : SmallGaps (c .gaps .last .0)
+  small = subst SmallGaps (sym (c .gaps .ensures)) (gaps-small (sizes (base .pre .0) (base .pre .1) (base .pre .2)) (base .args .basis) (ready shared))
+
+  size : (2 ≤ n base) × (n base ≤ 20) × (base .args .c ≤ 20)
+  size = let f = base .pre .0 .counts .small .few in let l = base .pre .2 in (omega arith, omega arith, omega arith)
+
+returns-3 : tie.Need-returns-3
+returns-3 c has =
+    let y = c .before .before in
+    let x = y .before .before in
+    let k = x .before .before in
+    let g = k .before in
+    let r = shared g in
+    let b = base g in
+    let e = two (made r) in
+    let z = e .if1 .left in
+    let p-is = lent-delays (ok b) (one e .prepare .ensures) z has in
+    test-yes (b .pre .0) (b .pre .1) (b .pre .2) has (b .args .basis) _
+    (λ i j h l w. years-cell (given e) has (made r .method-bases .ensures has) (else2 r .if2 .left) (r .shares-of .ensures) (b .args .basis) i j h l w
+    ∙ ap (λ (q : List ℤ). record { rbns = rbns (n b) (s b has) q (b .args .method) (b .args .basis) i j; ibnr = ibnr (n b) (s b has) q (b .args .method) i j }) p-is)
+    (number (made r) has ∙ else2 r .if2 .left) (g .gaps .ensures) (k .cell-number .ensures) (x .cellwise .ensures) (y .yearwise .ensures) (c .overall .ensures)
 
 pub test-set-spec : {M : Type 1} → statement M
 test-set-spec =
     tie.close
     (tie.spec
-    sub-n
-    cut-requires
-    slice-aggregate-forecast-set
-    forecast-set-requires
-    refused-requires
+    (λ c. omega (arith, c .pre))
+    (λ c κs. let b = ok (c .before .before .before .before .before) in ((b .counts, b .paid), (refl, refl, refl, refl)))
+    (λ c κs. search needs)
     returns
-    slice-aggregate-gaps
+    (λ c κs. let g = given (c .before .before .before .before) in (g .asked, (g .paid, refl)))
+    (λ c κs. search needs)
+    returns-2
+    (λ c κs. let g = given (two (c .before .before)) in ladder-ready (g .counts) (counts-ready (g .asked .shared)) .bounds)
     gaps-requires
-    cell-number-requires
-    cellwise-requires
-    yearwise-requires
-    overall-requires
-    returns-2)
+    (λ c κs. let z = size c in (omega arith, z .1))
+    (λ c κs. let g = c .before .before in (small g, size g .1))
+    (λ c κs. let g = c .before .before .before .before in (small g, size g .1, size g .2))
+    (λ c κs. let g = c .before .before .before .before .before .before in (small g, size g .1))
+    returns-3)

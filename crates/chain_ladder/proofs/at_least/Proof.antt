@@ -15,38 +15,23 @@ use Rattle.chain_ladder.proofs.at_least.Statement.{statement}
 use Rattle.chain_ladder.proofs.at_least.Tie as tie
 
 abbrev Inv-loop : tie.InvT-loop
-Inv-loop n least xs k₀ k = (k ≤ n) × (every k (λ k. leZ (toZ w64 least) (at xs k)) ≡ true)
+Inv-loop xs n least k₀ k = (k ≤ n) × (every k (λ k. leZ (toZ w64 least) (at xs k)) ≡ true)
 
 abbrev μ-loop : tie.MeasureT-loop
-μ-loop n least xs k₀ k = n - k
-
-loop-holds : tie.Need-loop-holds Inv-loop μ-loop
-loop-holds c = (omega arith, every-none _)
-
-mul-if1 : tie.Need-mul-if1 Inv-loop μ-loop
-mul-if1 c = omega arith
-
-array-copy-out-if1 : tie.Need-array-copy-out-if1 Inv-loop μ-loop
-array-copy-out-if1 c = omega arith
+μ-loop xs n least k₀ k = n - k
 
 returns : tie.Need-returns Inv-loop μ-loop
 returns c =
     let s = c .before .before .before .before in
     let k = c .before .before .before .loop .k in
-    let l : at (s .args .t1) k ⋖ s .args .least = lt-yes (rw (toZ-ofZ (s .fits .least), toZ-ofZ (record { sfits = c .before .if12 .given })) at (c .if1 .taken)) in
+    let l : at (s .args .xs .now) k ⋖ s .args .least = lt-yes (rw (toZ-ofZ (s .fits .least), toZ-ofZ (record { sfits = c .before .if12 .given })) at (c .if1 .taken)) in
     sym (every-no _ (s .args .n) k (omega arith) (leZ-false l))
-
-add-k : tie.Need-add-k Inv-loop μ-loop
-add-k c = omega arith
-
-loop-less : tie.Need-loop-less Inv-loop μ-loop
-loop-less c = omega arith
 
 loop-again : tie.Need-loop-again Inv-loop μ-loop
 loop-again c =
     let s = c .before .before .before .before in
     let k = c .before .before .before .loop .k in
-    let l : toZ w64 (ofZ w64 (s .args .least)) ⩽ at (s .args .t1) k = lt-no (rw (toZ-ofZ (record { sfits = c .before .if12 .given })) at (c .if1 .left)) in
+    let l : toZ w64 (ofZ w64 (s .args .least)) ⩽ at (s .args .xs .now) k = lt-no (rw (toZ-ofZ (record { sfits = c .before .if12 .given })) at (c .if1 .left)) in
     (omega arith, every-more _ k (c .before .before .before .loop .inv .1) (leZ-true l))
 
 returns-2 : tie.Need-returns-2 Inv-loop μ-loop
@@ -61,11 +46,11 @@ at-least-spec =
     (tie.spec
     Inv-loop
     μ-loop
-    loop-holds
-    mul-if1
-    array-copy-out-if1
+    (λ c. (omega arith, every-none _))
+    (λ c. omega arith)
+    (λ c. omega arith)
     returns
-    add-k
-    loop-less
+    (λ c. omega arith)
+    (λ c. omega arith)
     loop-again
     returns-2)

@@ -1,19 +1,21 @@
 -- `claim_costs_of_set` meets its contract: the questions of the shares, and then the quotients.
 -- Assumes nothing.
-use mathlib.Core.Path.{_≡_, sym, _∙_, ap}
+use mathlib.Core.Path.{_≡_, refl, sym, _∙_, ap, subst}
+use mathlib.Core.Bool.{Bool, true}
+use mathlib.Core.List.{List}
 use Prim.Native.Nat.{ℕ, _≤_}
 use native.Mathlib.Omega.{arith}
 use borrow.Author.Needs.{needs}
+use denote.Ref.{now}
 use lib.Dec.{T}
+use lib.Ieee.{Float}
 use lib.Ieee.Positive.{positive}
-use Rattle.model.specs.Questions.{firstNo, ofShares}
+use Rattle.model.specs.Shares as Shares
 use Rattle.model.specs.ClaimCosts.{meanCost, claimCosts}
+use Rattle.model.specs.Lent.{lentSet}
 use Rattle.model.specs.declared.TriangleSet.{TriangleSet}
-use Rattle.chain_ladder.specs.Valid.{Valid, least, few, counts-of, paid-of, paid-small}
-use Rattle.chain_ladder.specs.Sums.{sumsOf}
-use Rattle.chain_ladder.specs.Developed.{development, bothDeveloped}
-use Rattle.chain_ladder.specs.DevelopedLaws.{Shared, shared-set, developed-refusal, developed-yes}
-use Rattle.chain_ladder.specs.declared.Developed.{Developed}
+use Rattle.chain_ladder.specs.DevelopedLaws.{Shared, counts-ready, paid-ready}
+use Rattle.chain_ladder.specs.LadderLaws.{ladder-ready, ladder-ultimates}
 use Rattle.claim_costs.specs.Costs.{meanCosts, costAt}
 use Rattle.claim_costs.specs.CostsLaws.{mu-positive, costs-exact, factors-exact, costs-are, factors-are, at-meanCosts, inflations-are, set-no, set-yes}
 use Rattle.claim_costs.proofs.claim_costs_of_set.Statement.{statement}
@@ -21,121 +23,91 @@ use Rattle.claim_costs.proofs.claim_costs_of_set.Tie as tie
 
 module _ (c : tie.After-develop) where
   abbrev start : tie.Start
-  start = c .before .before .before .before
+  start = c .before .before .before .before .before
 
   abbrev m : ℕ
   m = start .args .m
 
-  abbrev set : TriangleSet
-  set = start .args .t1
-
-  abbrev valid : Valid m set
-  valid = start .pre
+  abbrev s : Bool → TriangleSet
+  s has = lentSet has (now (start .args .set))
 
   least-size : 1 ≤ m
-  least-size = let l = least m set valid in omega arith
+  least-size = let l = start .pre .0 .least in omega arith
 
   most-size : m ≤ 20
-  most-size = few m set valid
-
-  refusal-is : firstNo (ofShares m (set .counts) (set .paid)) ≡ c .develop .result .refusal
-  refusal-is = sym (developed-refusal m (set .counts) (set .paid) (c .develop .ensures))
+  most-size = start .pre .0 .small .few
 
 -- the set is accepted
-module _ (c : tie.After-u) where
+module _ (c : tie.Else1) where
   abbrev one : tie.After-develop
-  one = c .before .before .before .before
+  one = c .before
 
-  shared : Shared (m one) (set one .counts) (set one .paid)
-  shared = shared-set (m one) (set one) (valid one) (refusal-is one ∙ c .before .before .if1 .left)
+  shared : Shared (m one) (s one true .counts) (s one true .paid)
+  shared = record { counts = start one .pre .0; paid = start one .pre .1; asked = sym (one .develop .ensures .refusal) ∙ c .if1 .left }
 
-  developed-is : one .develop .result ≡ bothDeveloped (m one) (set one .counts) (set one .paid)
-  developed-is = one .develop .ensures ∙ developed-yes (m one) (set one .counts) (set one .paid) (shared .asked)
+module _ (c : tie.After-ultimates2) where
+  abbrev else1 : tie.Else1
+  else1 = c .before .before .before .before .before .before
+
+  abbrev base : tie.After-develop
+  base = one else1
+
+  n-is : c .before .before .before .ultimates .result ≡ Shares.ultimates (m base) (s base true .counts)
+  n-is = c .before .before .before .ultimates .ensures ∙ ladder-ultimates (base .develop .ensures .counts (else1 .if1 .left)) (most-size base)
+
+  u-is : c .ultimates2 .result ≡ Shares.ultimates (m base) (s base true .paid)
+  u-is = c .ultimates2 .ensures ∙ ladder-ultimates (base .develop .ensures .paid (else1 .if1 .left)) (most-size base)
 
 -- the mean costs, and mu
 module _ (c : tie.After-quotients) where
-  abbrev two : tie.After-develop
-  two = one (c .before)
+  abbrev two : tie.After-ultimates2
+  two = c .before .before .before
 
-  costs-is : c .quotients .result ≡ meanCosts (m two) (set two)
-  unfolding development
-  costs-is = rw (developed-is (c .before)) at (c .quotients .ensures) ∙ costs-are (m two) (set two) (most-size two)
+  abbrev made : tie.After-develop
+  made = base two
 
-  mu-is : costAt (c .quotients .result) 0 ≡ meanCost (m two) (set two) 1
-  mu-is = rw costs-is (at-meanCosts (m two) (set two) (most-size two) 0 (least-size two))
+  costs-is : (has : Bool) → c .quotients .result ≡ meanCosts (m made) (s made has)
+  costs-is has = c .quotients .ensures ∙ costs-are (m made) (s made has) (most-size made) (u-is two) (n-is two)
+
+  mu-is : (has : Bool) → costAt (c .quotients .result) 0 ≡ meanCost (m made) (s made has) 1
+  mu-is has = ap (λ (l : List Float). costAt l 0) (costs-is has) ∙ at-meanCosts (m made) (s made has) (most-size made) 0 (least-size made)
 
   mu-above : T (positive (costAt (c .quotients .result) 0))
-  mu-above = rw mu-is (mu-positive (m two) (set two) (shared (c .before)))
+  mu-above = subst (λ (x : Float). T (positive x)) (sym (mu-is true)) (mu-positive (m made) (s made true) (shared (else1 two)))
 
--- the factors
-module _ (c : tie.After-quotients2) where
+module _ (c : tie.After-sums) where
   abbrev three : tie.After-quotients
-  three = c .before .before .before .before .before .before
-
-  factors-is : c .quotients2 .result ≡ claimCosts (m (two three)) (set (two three)) .factors
-  unfolding sumsOf claimCosts
-  factors-is = rw (c .before .before .before .sums .ensures) at (c .quotients2 .ensures) ∙ factors-are _ _ (most-size (two three))
-
-inflations-is : (c : tie.After-inflations) → let b = two (three (c .before)) in c .inflations .result ≡ claimCosts (m b) (set b) .inflations
-unfolding development claimCosts
-inflations-is c =
-    let q = three (c .before) in
-    let b = two q in
-    c .inflations .ensures
-    ∙ inflations-are (m b) (set b) (most-size b) (least-size b) (ap (λ (x : Developed). x .paid .ultimates) (developed-is (q .before))) (costs-is q)
-
-develop-requires : tie.Need-develop-requires
-develop-requires c κs =
-    let s = c .before .before .before in
-    (counts-of (s .args .m) (s .args .t1) (s .pre), paid-of (s .args .m) (s .args .t1) (s .pre))
-
-refused-requires : tie.Need-refused-requires
-refused-requires c κs = search needs
+  three = c .before .before .before .before
 
 returns : tie.Need-returns
-returns c =
-    let b = c .before .before .before in
-    c .refused .ensures ∙ sym (set-no (m b) (set b) _ (refusal-is b) (c .before .if1 .taken))
-
-quotients-requires : tie.Need-quotients-requires
-unfolding development
-quotients-requires c κs = rw (developed-is c) (costs-exact (shared c))
-
-array-read-mu : tie.Need-array-read-mu
-array-read-mu c = search needs
-
-sums-requires : tie.Need-sums-requires
-sums-requires c κs = let b = two (c .before .before) in paid-small (m b) (set b) (valid b)
-
-sub-quotients : tie.Need-sub-quotients
-sub-quotients c = least-size (two (c .before .before .before .before .before))
-
-quotients-requires-2 : tie.Need-quotients-requires-2
-unfolding sumsOf
-quotients-requires-2 c κs =
-    let q = c .before .before .before .before .before in
-    rw (c .before .before .sums .ensures) (factors-exact (shared (q .before)))
-
-inflations-requires : tie.Need-inflations-requires
-inflations-requires c κs = (most-size (two (three c)), mu-above (three c))
+returns c has =
+    let b = c .before .before in
+    c .refused .ensures ∙ sym (set-no (m b) (s b has) _ (sym (b .develop .ensures .refusal)) (c .before .if1 .taken))
 
 returns-2 : tie.Need-returns-2
 unfolding claimCosts
-returns-2 c =
-    let q = three (c .before) in
-    set-yes (m (two q)) (set (two q)) (shared (q .before) .asked) (mu-is q) (factors-is (c .before)) (inflations-is c)
+returns-2 c has =
+    let f = c .before .before .before in
+    let w = f .before .before .before in
+    let q = three w in
+    let b = made q in
+    set-yes (m b) (s b has) (shared (else1 (two q)) .asked) (mu-is q has)
+    (f .quotients2 .ensures ∙ factors-are (m b) (s b has) (most-size b) (w .sums .ensures .1 .1) (w .sums .ensures .1 .0))
+    (c .inflations .ensures ∙ inflations-are (m b) (s b has) (most-size b) (least-size b) (u-is (two q)) (costs-is q has))
 
 pub claim-costs-of-set-spec : {M : Type 1} → statement M
 claim-costs-of-set-spec =
     tie.close
     (tie.spec
-    develop-requires
-    refused-requires
+    (λ c κs. let p = c .before .before .before .before .pre in (p, (refl, refl, refl, refl)))
+    (λ c κs. search needs)
     returns
-    quotients-requires
-    array-read-mu
-    sums-requires
-    sub-quotients
-    quotients-requires-2
-    inflations-requires
+    (λ c κs. let e = c .before .before in ladder-ready (one e .develop .ensures .counts (e .if1 .left)) (counts-ready (shared e)))
+    (λ c κs. let e = c .before .before .before .before .before in ladder-ready (one e .develop .ensures .paid (e .if1 .left)) (paid-ready (shared e)))
+    (λ c κs. let t = c .before .before in costs-exact (shared (else1 t)) (u-is t) (n-is t))
+    (λ c. search needs)
+    (λ c κs. let b = made (c .before .before .before) in ((omega arith, start b .pre .1 .small), (refl, refl, refl)))
+    (λ c. least-size (made (three (c .before .before))))
+    (λ c κs. let w = c .before .before in factors-exact (shared (else1 (two (three w)))) (w .sums .ensures .1 .1) (w .sums .ensures .1 .0))
+    (λ c κs. let q = three (c .before .before .before .before .before) in (most-size (made q), mu-above q))
     returns-2)

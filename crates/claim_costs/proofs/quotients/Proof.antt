@@ -19,10 +19,10 @@ abbrev entry : List ℤ → List ℤ → ℕ → Float
 entry xs ys k = ClaimCosts.quotient (at xs k) (at ys k)
 
 abbrev Inv-loop : tie.InvT-loop
-Inv-loop n xs ys out₀ k₀ out k = (k ≤ n) × (out ≡ listed 20 k (entry xs ys) noFloat)
+Inv-loop xs ys n out₀ k₀ out k = (k ≤ n) × (out ≡ listed 20 k (entry xs ys) noFloat)
 
 abbrev μ-loop : tie.MeasureT-loop
-μ-loop n xs ys out₀ k₀ out k = n - k
+μ-loop xs ys n out₀ k₀ out k = n - k
 
 -- the two numbers, as they are read
 module _ (c : tie.After-y Inv-loop μ-loop) where
@@ -32,42 +32,15 @@ module _ (c : tie.After-y Inv-loop μ-loop) where
   abbrev k : ℕ
   k = c .before .before .before .loop .k
 
-  x-is : toZ w64 (ofZ w64 (at (start .args .t1) k)) ≡ at (start .args .t1) k
+  x-is : toZ w64 (ofZ w64 (at (start .args .xs .now) k)) ≡ at (start .args .xs .now) k
   x-is = toZ-ofZ (record { sfits = c .before .x .given })
 
-  y-is : toZ w64 (ofZ w64 (at (start .args .t2) k)) ≡ at (start .args .t2) k
+  y-is : toZ w64 (ofZ w64 (at (start .args .ys .now) k)) ≡ at (start .args .ys .now) k
   y-is = toZ-ofZ (record { sfits = c .y .given })
 
 loop-holds : tie.Need-loop-holds Inv-loop μ-loop
 unfolding ofBits
 loop-holds c = (omega arith, listed-none 20 _ noFloat)
-
-mul-x : tie.Need-mul-x Inv-loop μ-loop
-mul-x c = omega arith
-
-array-copy-out-x : tie.Need-array-copy-out-x Inv-loop μ-loop
-array-copy-out-x c = omega arith
-
-mul-y : tie.Need-mul-y Inv-loop μ-loop
-mul-y c = omega arith
-
-array-copy-out-y : tie.Need-array-copy-out-y Inv-loop μ-loop
-array-copy-out-y c = omega arith
-
-quotient-requires : tie.Need-quotient-requires Inv-loop μ-loop
-quotient-requires c κs = rw (x-is c, y-is c) (start c .pre .places (k c) (omega arith))
-
-mul-out : tie.Need-mul-out Inv-loop μ-loop
-mul-out c = omega arith
-
-array-write-out : tie.Need-array-write-out Inv-loop μ-loop
-array-write-out c = omega arith
-
-add-k : tie.Need-add-k Inv-loop μ-loop
-add-k c = omega arith
-
-loop-less : tie.Need-loop-less Inv-loop μ-loop
-loop-less c = omega arith
 
 loop-again : tie.Need-loop-again Inv-loop μ-loop
 loop-again c =
@@ -84,14 +57,14 @@ quotients-spec =
     Inv-loop
     μ-loop
     loop-holds
-    mul-x
-    array-copy-out-x
-    mul-y
-    array-copy-out-y
-    quotient-requires
-    mul-out
-    array-write-out
-    add-k
-    loop-less
+    (λ c. omega arith)
+    (λ c. omega arith)
+    (λ c. omega arith)
+    (λ c. omega arith)
+    (λ c κs. rw (x-is c, y-is c) (start c .pre .places (k c) (omega arith)))
+    (λ c. omega arith)
+    (λ c. omega arith)
+    (λ c. omega arith)
+    (λ c. omega arith)
     loop-again
     returns)

@@ -14,27 +14,6 @@ use Rattle.closing.proofs.answer.Tie as tie
 within : (c : tie.After-respond-to) → c .respond-to .result ≤ length (c .respond-to .last .1 .1 .0)
 within c = text-within _ _ _ _ _ (c .respond-to .ensures)
 
-enum-known-read : tie.Need-enum-known-read
-enum-known-read c = search needs
-
-enum-told : tie.Need-enum-told
-enum-told c = search needs
-
-returns : tie.Need-returns
-returns c = rw (c .enum-told .given .1)
-
-respond-to-requires : tie.Need-respond-to-requires
-respond-to-requires c κs = search needs
-
-array-share-prefix-text : tie.Need-array-share-prefix-text
-array-share-prefix-text c = omega (arith, within c)
-
-slice-aggregate-write-whole : tie.Need-slice-aggregate-write-whole
-slice-aggregate-write-whole c = sym (length-take-le _ _ (omega (arith, within (c .before))))
-
-write-whole-requires : tie.Need-write-whole-requires
-write-whole-requires c κs = search needs
-
 returns-2 : tie.Need-returns-2
 returns-2 c =
     let p = c .before .before in
@@ -47,11 +26,11 @@ pub answer-spec : {M : Type 1} → statement M
 answer-spec =
     tie.close
     (tie.spec
-    enum-known-read
-    enum-told
-    returns
-    respond-to-requires
-    array-share-prefix-text
-    slice-aggregate-write-whole
-    write-whole-requires
+    (λ c. search needs)
+    (λ c. search needs)
+    (λ c. rw (c .enum-told .given .1))
+    (λ c κs. search needs)
+    (λ c. omega (arith, within c))
+    (λ c. sym (length-take-le _ _ (omega (arith, within (c .before)))))
+    (λ c κs. search needs)
     returns-2)

@@ -56,24 +56,6 @@ module _ (c : tie.After-past) where
 divisor-is : (c : tie.After-round-div-arg2) → let b = at (now (start (one (c .before)) .args .b)) 0 in toZ w64 (ofZ w64 b) ≡ b
 divisor-is c = toZ-ofZ (record { sfits = c .round-div-arg2 .given })
 
-mul-round-div : tie.Need-mul-round-div
-mul-round-div c = omega (arith, c .pre .weights .few)
-
-element-copy-out-round-div : tie.Need-element-copy-out-round-div
-element-copy-out-round-div c = c .pre .weights .few
-
-mul-round-div-2 : tie.Need-mul-round-div-2
-mul-round-div-2 c = rw (scaled-is c) (scaled-fits c)
-
-past-requires : tie.Need-past-requires
-past-requires c κs = start c .pre .weights
-
-sub-round-div : tie.Need-sub-round-div
-sub-round-div c = rw (numerator c) (fits c)
-
-element-copy-out-round-div-2 : tie.Need-element-copy-out-round-div-2
-element-copy-out-round-div-2 c = search needs
-
 round-div-requires : tie.Need-round-div-requires
 round-div-requires c κs =
     let b = c .before in
@@ -90,11 +72,11 @@ pub delay-spec : {M : Type 1} → statement M
 delay-spec =
     tie.close
     (tie.spec
-    mul-round-div
-    element-copy-out-round-div
-    mul-round-div-2
-    past-requires
-    sub-round-div
-    element-copy-out-round-div-2
+    (λ c. omega (arith, c .pre .weights .few))
+    (λ c. c .pre .weights .few)
+    (λ c. rw (scaled-is c) (scaled-fits c))
+    (λ c κs. start c .pre .weights)
+    (λ c. rw (numerator c) (fits c))
+    (λ c. search needs)
     round-div-requires
     returns)

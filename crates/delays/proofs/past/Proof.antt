@@ -76,45 +76,6 @@ module _ (c : tie.After-out2 Inv-loop μ-loop) where
       sum-more k _ (c .before .before .before .loop .inv .1) (sum-fits _ _ l k (start .pre) (omega arith))
       (ap (λ (z : ℤ). toZ w64 (ofZ w64 z)) factors ∙ toZ-ofZ term-fits)
 
-loop-holds : tie.Need-loop-holds Inv-loop μ-loop
-loop-holds c = (omega arith, sum-none _)
-
-add-out : tie.Need-add-out Inv-loop μ-loop
-add-out c = omega (arith, c .before .before .pre .few)
-
-mul-out : tie.Need-mul-out Inv-loop μ-loop
-mul-out c = omega (arith, c .before .before .pre .few)
-
-element-copy-out-out : tie.Need-element-copy-out-out Inv-loop μ-loop
-element-copy-out-out c = omega (arith, c .before .before .pre .few)
-
-sub-out : tie.Need-sub-out Inv-loop μ-loop
-sub-out c = omega arith
-
-sub-out-2 : tie.Need-sub-out-2 Inv-loop μ-loop
-sub-out-2 c = omega arith
-
-mul-out-2 : tie.Need-mul-out-2 Inv-loop μ-loop
-mul-out-2 c = omega (arith, c .before .before .before .pre .few)
-
-element-copy-out-out-2 : tie.Need-element-copy-out-out-2 Inv-loop μ-loop
-element-copy-out-out-2 c = omega (arith, c .before .before .before .pre .few)
-
-mul-out-3 : tie.Need-mul-out-3 Inv-loop μ-loop
-mul-out-3 c = rw (factors c) (term-fits c)
-
-add-out-2 : tie.Need-add-out-2 Inv-loop μ-loop
-add-out-2 c = rw (added c) (sum-fits _ _ (l c) (k c + 1) (start c .pre) (omega (arith, inside c)))
-
-add-k : tie.Need-add-k Inv-loop μ-loop
-add-k c = omega (arith, start c .pre .few, inside c)
-
-loop-less : tie.Need-loop-less Inv-loop μ-loop
-loop-less c = omega arith
-
-loop-again : tie.Need-loop-again Inv-loop μ-loop
-loop-again c = (omega (arith, inside c), ap (ofZ w64) (added c))
-
 returns : tie.Need-returns Inv-loop μ-loop
 returns c =
     let s = c .before .before in
@@ -127,17 +88,17 @@ past-spec =
     (tie.spec
     Inv-loop
     μ-loop
-    loop-holds
-    add-out
-    mul-out
-    element-copy-out-out
-    sub-out
-    sub-out-2
-    mul-out-2
-    element-copy-out-out-2
-    mul-out-3
-    add-out-2
-    add-k
-    loop-less
-    loop-again
+    (λ c. (omega arith, sum-none _))
+    (λ c. omega (arith, c .before .before .pre .few))
+    (λ c. omega (arith, c .before .before .pre .few))
+    (λ c. omega (arith, c .before .before .pre .few))
+    (λ c. omega arith)
+    (λ c. omega arith)
+    (λ c. omega (arith, c .before .before .before .pre .few))
+    (λ c. omega (arith, c .before .before .before .pre .few))
+    (λ c. rw (factors c) (term-fits c))
+    (λ c. rw (added c) (sum-fits _ _ (l c) (k c + 1) (start c .pre) (omega (arith, inside c))))
+    (λ c. omega (arith, start c .pre .few, inside c))
+    (λ c. omega arith)
+    (λ c. (omega (arith, inside c), ap (ofZ w64) (added c)))
     returns)

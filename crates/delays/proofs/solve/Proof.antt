@@ -38,28 +38,28 @@ abbrev μ-loop : tie.MeasureT-loop
 -- before a delay is solved
 module _ (c : tie.After-p Inv-loop μ-loop) where
   abbrev start : tie.Start Inv-loop μ-loop
-  start = c .before .before .before .before .before
+  start = c .before .before .before
 
   abbrev m : ℕ
   m = start .args .m
 
   abbrev b : List ℤ
-  b = start .args .t2
+  b = start .args .b .now
 
   abbrev q : List ℤ
-  q = start .args .t3
+  q = start .args .q .now
 
   abbrev l : ℕ
-  l = c .before .before .before .before .loop .l
+  l = c .before .before .loop .l
 
   inside : l < m
-  inside = c .before .before .before .loop-test .taken
+  inside = c .before .loop-test .taken
 
-  past-held : (k : ℕ) → k < l → natAbs (at (c .before .before .before .before .loop .p) k) ≤ 8 * 10 ^ 9
+  past-held : (k : ℕ) → k < l → natAbs (at (c .before .before .loop .p) k) ≤ 8 * 10 ^ 9
   unfolding delays
   past-held k h =
-      let e = ap (λ (x : List ℤ). at x k) (c .before .before .before .before .loop .inv .1) ∙ sym (delay-kept b q m l k (omega (arith, inside)) h) in
-      let w = within-so _ _ (at (delays m b q) k) (every-at (λ k. held (at (delays m b q) k)) l k (c .before .before .before .before .loop .inv .2) h) in
+      let e = ap (λ (x : List ℤ). at x k) (c .before .before .loop .inv .1) ∙ sym (delay-kept b q m l k (omega (arith, inside)) h) in
+      let w = within-so _ _ (at (delays m b q) k) (every-at (λ k. held (at (delays m b q) k)) l k (c .before .before .loop .inv .2) h) in
       rw e (natAbs-≤ .1 (w .1, w .0))
 
 -- the delay that is solved
@@ -69,7 +69,7 @@ module _ (c : tie.After-delay Inv-loop μ-loop) where
 
   x-is : toZ w64 (ofZ w64 (c .delay .result)) ≡ at (delays (m one) (b one) (q one)) (l one)
   x-is =
-      toZ-ofZ (record { sfits = c .delay .ok }) ∙ c .delay .ensures ∙ ap (λ (p : List ℤ). delayAfter (b one) (q one) p (l one)) (one .before .before .before .before .loop .inv .1)
+      toZ-ofZ (record { sfits = c .delay .ok }) ∙ c .delay .ensures ∙ ap (λ (p : List ℤ). delayAfter (b one) (q one) p (l one)) (one .before .before .loop .inv .1)
       ∙ sym (delay-from (b one) (q one) (m one) (l one) (start one .pre .few) (inside one))
 
   -- a delay outside its bounds
@@ -81,15 +81,6 @@ loop-holds : tie.Need-loop-holds Inv-loop μ-loop
 unfolding delaysTo
 loop-holds c = (omega arith, refl, every-none _)
 
-delay-requires : tie.Need-delay-requires Inv-loop μ-loop
-delay-requires c κs = next-of (m c) (b c) (q c) (start c .pre) (l c) (inside c) _ (past-held c)
-
-sub-if1 : tie.Need-sub-if1 Inv-loop μ-loop
-sub-if1 c = fits-abs (omega arith)
-
-no-delays-requires : tie.Need-no-delays-requires Inv-loop μ-loop
-no-delays-requires c κs = tt
-
 returns : tie.Need-returns Inv-loop μ-loop
 returns c =
     let d = c .before .before in
@@ -97,27 +88,12 @@ returns c =
     let h : x ⋖ negℤ (pos (8 * 10 ^ 9)) = lt-yes (rw (x-is d) at (c .before .if1 .taken)) in
     c .no-delays .ensures ∙ refused d (below-no _ _ x h)
 
-no-delays-requires-2 : tie.Need-no-delays-requires-2 Inv-loop μ-loop
-no-delays-requires-2 c κs = tt
-
 returns-2 : tie.Need-returns-2 Inv-loop μ-loop
 returns-2 c =
     let d = c .before .before .before in
     let x : ℤ = at (delays (m (one d)) (b (one d)) (q (one d))) (l (one d)) in
     let h : pos (8 * 10 ^ 9) ⋖ x = lt-yes (rw (x-is d) at (c .before .if2 .taken)) in
     c .no-delays2 .ensures ∙ refused d (above-no (negℤ (pos (8 * 10 ^ 9))) _ x h)
-
-mul-p : tie.Need-mul-p Inv-loop μ-loop
-mul-p c = let o = one (c .before .before) in omega (arith, inside o, start o .pre .few)
-
-array-set-from-p : tie.Need-array-set-from-p Inv-loop μ-loop
-array-set-from-p c = let o = one (c .before .before) in omega (arith, inside o, start o .pre .few)
-
-add-l : tie.Need-add-l Inv-loop μ-loop
-add-l c = let o = one (c .before .before) in omega (arith, inside o, start o .pre .few)
-
-loop-less : tie.Need-loop-less Inv-loop μ-loop
-loop-less c = let o = one (c .before .before) in omega (arith, inside o)
 
 loop-again : tie.Need-loop-again Inv-loop μ-loop
 unfolding delaysTo
@@ -128,8 +104,8 @@ loop-again c =
     let low : negℤ (pos (8 * 10 ^ 9)) ⩽ x = lt-no (rw (x-is d) at (c .before .if1 .left)) in
     let high : x ⩽ pos (8 * 10 ^ 9) = lt-no (rw (x-is d) at (c .if2 .left)) in (
       omega (arith, inside o),
-      more (b o) (q o) (l o) (o .before .before .before .before .loop .inv .1) (x-is d ∙ delay-from (b o) (q o) (m o) (l o) (start o .pre .few) (inside o)),
-      every-more _ (l o) (o .before .before .before .before .loop .inv .2) (within-yes _ _ x low high),
+      more (b o) (q o) (l o) (o .before .before .loop .inv .1) (x-is d ∙ delay-from (b o) (q o) (m o) (l o) (start o .pre .few) (inside o)),
+      every-more _ (l o) (o .before .before .loop .inv .2) (within-yes _ _ x low high),
     )
   where
     more : (b q : List ℤ) (l : ℕ) {p : List ℤ} {v : ℤ} → p ≡ delaysTo b q l → v ≡ delayAfter b q (delaysTo b q l) l → set p l v ≡ delaysTo b q (l + 1)
@@ -150,15 +126,15 @@ solve-spec =
     Inv-loop
     μ-loop
     loop-holds
-    delay-requires
-    sub-if1
-    no-delays-requires
+    (λ c κs. next-of (m c) (b c) (q c) (start c .pre) (l c) (inside c) _ (past-held c))
+    (λ c. fits-abs (omega arith))
+    (λ c κs. tt)
     returns
-    no-delays-requires-2
+    (λ c κs. tt)
     returns-2
-    mul-p
-    array-set-from-p
-    add-l
-    loop-less
+    (λ c. let o = one (c .before .before) in omega (arith, inside o, start o .pre .few))
+    (λ c. let o = one (c .before .before) in omega (arith, inside o, start o .pre .few))
+    (λ c. let o = one (c .before .before) in omega (arith, inside o, start o .pre .few))
+    (λ c. let o = one (c .before .before) in omega (arith, inside o))
     loop-again
     returns-3)

@@ -16,15 +16,9 @@ v-in c = passed (c .if1 .left) (rw (toZ-ofZ (c .before .before .fits .v)) at (c 
 x-in : (c : tie.Else2) → upTo (9 * 10 ^ 18) (c .before .before .before .before .args .x) ≡ true
 x-in c = passed (c .if2 .left) (rw (toZ-ofZ (c .before .before .before .before .fits .x)) at (c .before .lies-within2 .ensures))
 
-lies-within-requires : tie.Need-lies-within-requires
-lies-within-requires c κs = search needs
-
 returns : tie.Need-returns
 unfolding cell
 returns c = rw (refused (c .if1 .taken) (rw (toZ-ofZ (c .before .before .fits .v)) at (c .before .lies-within .ensures)))
-
-lies-within-requires-2 : tie.Need-lies-within-requires-2
-lies-within-requires-2 c κs = search needs
 
 returns-2 : tie.Need-returns-2
 unfolding cell
@@ -47,9 +41,9 @@ pub probe-cell-spec : {M : Type 1} → statement M
 probe-cell-spec =
     tie.close
     (tie.spec
-    lies-within-requires
+    (λ c κs. search needs)
     returns
-    lies-within-requires-2
+    (λ c κs. search needs)
     returns-2
     scale-cell-requires
     returns-3)

@@ -19,15 +19,9 @@ a-in c = passed (c .if1 .left) (rw (toZ-ofZ (c .before .before .fits .a)) at (c 
 b-in : (c : tie.Else2) → within (pos 1) (pos (10 ^ 18)) (c .before .before .before .before .args .b) ≡ true
 b-in c = passed (c .if2 .left) (rw (toZ-ofZ (c .before .before .before .before .fits .b)) at (c .before .lies-within2 .ensures))
 
-lies-within-requires : tie.Need-lies-within-requires
-lies-within-requires c κs = search needs
-
 returns : tie.Need-returns
 unfolding roundDiv
 returns c = rw (refused (c .if1 .taken) (rw (toZ-ofZ (c .before .before .fits .a)) at (c .before .lies-within .ensures)))
-
-lies-within-requires-2 : tie.Need-lies-within-requires-2
-lies-within-requires-2 c κs = search needs
 
 returns-2 : tie.Need-returns-2
 unfolding roundDiv
@@ -51,9 +45,9 @@ pub probe-round-div-spec : {M : Type 1} → statement M
 probe-round-div-spec =
     tie.close
     (tie.spec
-    lies-within-requires
+    (λ c κs. search needs)
     returns
-    lies-within-requires-2
+    (λ c κs. search needs)
     returns-2
     round-div-requires
     returns-3)

@@ -27,23 +27,14 @@ d-in c = passed (c .if3 .left) (rw (toZ-ofZ (c .before .before .before .before .
 cap-in : (c : tie.Else4) → leb (c .before .before .before .before .before .before .before .args .cap) (21 * 10 ^ 13) ≡ true
 cap-in c = le-leb _ _ (c .if4 .left)
 
-lies-within-requires : tie.Need-lies-within-requires
-lies-within-requires c κs = search needs
-
 returns : tie.Need-returns
 unfolding rowBase
 returns c = rw (refused (c .if1 .taken) (rw (toZ-ofZ (c .before .before .fits .u)) at (c .before .lies-within .ensures)))
-
-lies-within-requires-2 : tie.Need-lies-within-requires-2
-lies-within-requires-2 c κs = search needs
 
 returns-2 : tie.Need-returns-2
 unfolding rowBase
 returns-2 c =
     rw (u-in (c .before .before), refused (c .if2 .taken) (rw (toZ-ofZ (c .before .before .before .before .fits .w)) at (c .before .lies-within2 .ensures)))
-
-lies-within-requires-3 : tie.Need-lies-within-requires-3
-lies-within-requires-3 c κs = search needs
 
 returns-3 : tie.Need-returns-3
 unfolding rowBase
@@ -69,9 +60,6 @@ mul-div-capped-requires c κs =
       omega arith,
     )
 
-as-number-requires : tie.Need-as-number-requires
-as-number-requires c κs = search needs
-
 returns-5 : tie.Need-returns-5
 unfolding rowBase
 returns-5 c =
@@ -86,13 +74,13 @@ pub probe-row-base-spec : {M : Type 1} → statement M
 probe-row-base-spec =
     tie.close
     (tie.spec
-    lies-within-requires
+    (λ c κs. search needs)
     returns
-    lies-within-requires-2
+    (λ c κs. search needs)
     returns-2
-    lies-within-requires-3
+    (λ c κs. search needs)
     returns-3
     returns-4
     mul-div-capped-requires
-    as-number-requires
+    (λ c κs. search needs)
     returns-5)

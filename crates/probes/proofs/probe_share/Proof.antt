@@ -23,23 +23,14 @@ a-in c = passed (c .if2 .left) (rw (toZ-ofZ (c .before .before .before .before .
 b-in : (c : tie.Else3) → within (pos 1) (pos (4 * 10 ^ 12)) (c .before .before .before .before .before .before .args .b) ≡ true
 b-in c = passed (c .if3 .left) (rw (toZ-ofZ (c .before .before .before .before .before .before .fits .b)) at (c .before .lies-within3 .ensures))
 
-lies-within-requires : tie.Need-lies-within-requires
-lies-within-requires c κs = search needs
-
 returns : tie.Need-returns
 unfolding share
 returns c = rw (refused (c .if1 .taken) (rw (toZ-ofZ (c .before .before .fits .g)) at (c .before .lies-within .ensures)))
-
-lies-within-requires-2 : tie.Need-lies-within-requires-2
-lies-within-requires-2 c κs = search needs
 
 returns-2 : tie.Need-returns-2
 unfolding share
 returns-2 c =
     rw (g-in (c .before .before), refused (c .if2 .taken) (rw (toZ-ofZ (c .before .before .before .before .fits .a)) at (c .before .lies-within2 .ensures)))
-
-lies-within-requires-3 : tie.Need-lies-within-requires-3
-lies-within-requires-3 c κs = search needs
 
 returns-3 : tie.Need-returns-3
 unfolding share
@@ -60,9 +51,6 @@ mul-div-capped-requires c κs =
       lit< tt,
     )
 
-as-number-requires : tie.Need-as-number-requires
-as-number-requires c κs = search needs
-
 returns-4 : tie.Need-returns-4
 unfolding share
 returns-4 c =
@@ -76,12 +64,12 @@ pub probe-share-spec : {M : Type 1} → statement M
 probe-share-spec =
     tie.close
     (tie.spec
-    lies-within-requires
+    (λ c κs. search needs)
     returns
-    lies-within-requires-2
+    (λ c κs. search needs)
     returns-2
-    lies-within-requires-3
+    (λ c κs. search needs)
     returns-3
     mul-div-capped-requires
-    as-number-requires
+    (λ c κs. search needs)
     returns-4)

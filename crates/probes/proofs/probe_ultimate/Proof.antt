@@ -21,15 +21,9 @@ c-in c = passed (c .if1 .left) (rw (toZ-ofZ (c .before .before .fits .c)) at (c 
 g-in : (c : tie.Else2) → within (pos (10 ^ 6)) (pos (4 * 10 ^ 9)) (c .before .before .before .before .args .g) ≡ true
 g-in c = passed (c .if2 .left) (rw (toZ-ofZ (c .before .before .before .before .fits .g)) at (c .before .lies-within2 .ensures))
 
-lies-within-requires : tie.Need-lies-within-requires
-lies-within-requires c κs = search needs
-
 returns : tie.Need-returns
 unfolding ultimate
 returns c = rw (refused (c .if1 .taken) (rw (toZ-ofZ (c .before .before .fits .c)) at (c .before .lies-within .ensures)))
-
-lies-within-requires-2 : tie.Need-lies-within-requires-2
-lies-within-requires-2 c κs = search needs
 
 returns-2 : tie.Need-returns-2
 unfolding ultimate
@@ -54,9 +48,9 @@ pub probe-ultimate-spec : {M : Type 1} → statement M
 probe-ultimate-spec =
     tie.close
     (tie.spec
-    lies-within-requires
+    (λ c κs. search needs)
     returns
-    lies-within-requires-2
+    (λ c κs. search needs)
     returns-2
     mul-div-requires
     returns-3)

@@ -1,19 +1,11 @@
 -- `row_bases::incurred_under` meets its contract. Assumes nothing.
-use borrow.Author.Tests.{ne-eqb}
-use Rattle.row_bases.specs.Method.{incurredUnder}
+use mathlib.Core.Path.{refl}
 use Rattle.row_bases.proofs.incurred_under.Statement.{statement}
 use Rattle.row_bases.proofs.incurred_under.Tie as tie
 
-returns : tie.Need-returns
-unfolding incurredUnder
-returns c = rw (c .if1 .taken)
-
-incurred-ultimates-requires : tie.Need-incurred-ultimates-requires
-incurred-ultimates-requires c κs = (c .before .pre .0, c .before .pre .1 (c .if1 .left))
-
 returns-2 : tie.Need-returns-2
-unfolding incurredUnder
-returns-2 c = rw (ne-eqb (c .before .before .args .method) 0 (c .before .if1 .left)) (c .incurred-ultimates .ensures)
+returns-2 c = record { unused = λ q. absurd (c .before .before .if1 .left q); used = λ _. c .incurred-ultimates .ensures }
 
 pub incurred-under-spec : {M : Type 1} → statement M
-incurred-under-spec = tie.close (tie.spec returns incurred-ultimates-requires returns-2)
+incurred-under-spec =
+    tie.close (tie.spec (λ c. record { unused = λ _. (refl, c .before .pre .2); used = λ n. absurd (n (c .if1 .taken)) }) (λ c κs. let e = c .before in (e .before .pre .0, e .before .pre .1 (e .if1 .left))) returns-2)

@@ -1,94 +1,92 @@
 -- `row_bases::method_bases` meets its contract. Assumes nothing.
-use mathlib.Core.Path.{_≡_, sym, _∙_, ap, ap₂, subst}
-use mathlib.Core.Bool.{true}
-use mathlib.Core.List.{List}
-use borrow.Author.Needs.{needs}
+use mathlib.Core.Path.{_≡_, refl, sym, _∙_}
+use mathlib.Core.Bool.{Bool, true}
+use Prim.Native.Nat.{ℕ, _≤_}
+use native.Mathlib.Omega.{arith}
 use borrow.Author.Tests.{not-true, not-false}
 use denote.Ref.{now}
-use lib.IntN.{ℤ}
-use Rattle.chain_ladder.specs.declared.Incurred.{Incurred}
-use Rattle.row_bases.specs.declared.bases.Bases.{Bases}
+use Rattle.model.specs.Shares as Shares
+use Rattle.model.specs.Lent.{triangleIn, lentSet}
+use Rattle.model.specs.declared.TriangleSet.{TriangleSet}
+use Rattle.chain_ladder.specs.DevelopedLaws.{paid-ready}
+use Rattle.chain_ladder.specs.LadderLaws.{ladder-ready, ladder-ultimates}
 use Rattle.row_bases.specs.Bases.{AllSizes}
-use Rattle.row_bases.specs.Method.{basesFrom, incurredUnder}
-use Rattle.row_bases.specs.MethodLaws.{from-13, from-14, from-yes}
+use Rattle.row_bases.specs.MethodLaws.{all-sizes, left-overs, answer-13, answer-14, answer-yes, row-bases-are}
 use Rattle.row_bases.proofs.method_bases.Statement.{statement}
 use Rattle.row_bases.proofs.method_bases.Tie as tie
 
-abbrev start : tie.After-incurred-under → tie.Start
-start c = c .before
+module _ (c : tie.After-incurred-under) where
+  abbrev start : tie.Start
+  start = c .before .before
 
-abbrev x : tie.After-incurred-under → Incurred
-x c = c .incurred-under .result
+  abbrev m : ℕ
+  m = start .args .m
 
--- the sizes that the bases ask
-sized : (c : tie.After-incurred-under) → x c .ok ≡ true → AllSizes (start c .args .m) (start c .args .method) (start c .args .paid .ultimates) (start c .args .paid .latest) (x c .ultimates)
-sized c has =
-    let e = c .incurred-under .ensures in
-    subst (λ (y : Incurred). AllSizes (start c .args .m) (start c .args .method) (start c .args .paid .ultimates) (start c .args .paid .latest) (y .ultimates)) (sym e)
-    (start c .pre .years (sym (ap (λ (y : Incurred). y .ok) e) ∙ has))
+  abbrev s : Bool → TriangleSet
+  s has = lentSet has (now (start .args .set))
 
--- the same of what was asked for
-whole : (c : tie.After-incurred-under) → let a = start c .args in basesFrom (a .m) (a .method) (a .paid) (x c) ≡ basesFrom (a .m) (a .method) (a .paid) (incurredUnder (a .m) (now (a .incurred)) (a .method))
-whole c = ap (basesFrom (start c .args .m) (start c .args .method) (start c .args .paid)) (c .incurred-under .ensures)
+  few : m ≤ 20
+  few = start .pre .0 .shared .counts .small .few
 
-incurred-under-requires : tie.Need-incurred-under-requires
-incurred-under-requires c κs = (c .pre .some, c .pre .incurred)
+-- question 13 got a yes
+module _ (c : tie.Else1) where
+  abbrev one : tie.After-incurred-under
+  one = c .before
 
-no-bases-requires : tie.Need-no-bases-requires
-no-bases-requires c κs = search needs
+  yes-13 : one .incurred-under .result ≡ true
+  yes-13 = not-false _ (c .if1 .left)
+
+module _ (c : tie.After-ultimates) where
+  abbrev two : tie.Else1
+  two = c .before
+
+  abbrev base : tie.After-incurred-under
+  base = one two
+
+  u-is : c .ultimates .result ≡ Shares.ultimates (m base) (triangleIn 1 (now (start base .args .set)))
+  u-is = c .ultimates .ensures ∙ ladder-ultimates (start base .pre .1 .0) (few base)
 
 returns : tie.Need-returns
-returns c =
-    let d = c .before .before .before in
-    c .no-bases .ensures
-    ∙ sym (from-13 (start d .args .m) (start d .args .method) (start d .args .paid) (x d) (not-true (x d .ok) (c .before .if1 .taken)))
-    ∙ whole d
-
-row-bases-requires : tie.Need-row-bases-requires
-row-bases-requires c κs =
-    let e = c .before .before .before in
-    let d = e .before .before in
-    (start d .pre .some, start d .pre .few, sized d (not-false (x d .ok) (e .if1 .left)))
-
-no-bases-requires-2 : tie.Need-no-bases-requires-2
-no-bases-requires-2 c κs = search needs
+returns c has =
+    let b = c .before in
+    let no = answer-13 (m b) (s b has) (start b .args .method) (start b .pre .0) (b .incurred-under .ensures) (not-true _ (c .if1 .taken)) in
+    record { refusal = sym no; bases = λ z. absurd (omega arith); lefts = refl }
 
 returns-2 : tie.Need-returns-2
-returns-2 c =
-    let b = c .before .before .before in
-    let e = b .before .before .before .before in
-    let d = e .before .before in
-    let out = sym (ap (λ (y : Bases). y .ok) (b .row-bases .ensures)) ∙ not-true (b .row-bases .result .ok) (c .before .if2 .taken) in
-    c .no-bases2 .ensures
-    ∙ sym (from-14 (start d .args .m) (start d .args .method) (start d .args .paid) (x d) (not-false (x d .ok) (e .if1 .left)) out)
-    ∙ whole d
-
-leftovers-requires : tie.Need-leftovers-requires
-leftovers-requires c κs =
-    let b = c .before .before .before in
-    let e = b .before .before .before .before in
-    let d = e .before .before in
-    (start d .pre .few, sized d (not-false (x d .ok) (e .if1 .left)))
+returns-2 c has =
+    let r = c .before in
+    let t = r .before .before .before .before in
+    let b = base t in
+    let no = answer-14 (m b) (s b has) (start b .args .method) (start b .pre .0) (b .incurred-under .ensures) (yes-13 (two t)) (u-is t) (start b .pre .1 .0 .latest-is) (r .row-bases .ensures) (not-true _ (c .if2 .taken)) in
+    record { refusal = sym no; bases = λ z. absurd (omega arith); lefts = refl }
 
 returns-3 : tie.Need-returns-3
-returns-3 c =
-    let b = c .before .before .before .before in
-    let e = b .before .before .before .before in
-    let d = e .before .before in
-    let in-range = sym (ap (λ (y : Bases). y .ok) (b .row-bases .ensures)) ∙ not-false (b .row-bases .result .ok) (c .before .before .if2 .left) in
-    ap₂ (λ (v l : List ℤ). record { refusal = 0; v = v; leftovers = l }) (ap (λ (y : Bases). y .v) (b .row-bases .ensures)) (c .leftovers .ensures)
-    ∙ sym (from-yes (start d .args .m) (start d .args .method) (start d .args .paid) (x d) (not-false (x d .ok) (e .if1 .left)) in-range)
-    ∙ whole d
+returns-3 c has =
+    let e = c .before .before .before in
+    let r = e .before in
+    let t = r .before .before .before .before in
+    let b = base t in
+    let yes = not-false _ (e .if2 .left) in
+    record {
+      refusal = sym (answer-yes (m b) (s b has) (start b .args .method) (start b .pre .0) (b .incurred-under .ensures) (yes-13 (two t)) (u-is t) (start b .pre .1 .0 .latest-is) (r .row-bases .ensures) yes);
+      bases = λ _. row-bases-are (m b) (s b has) (start b .args .method) (start b .pre .0) (b .incurred-under .ensures) (yes-13 (two t)) (u-is t) (start b .pre .1 .0 .latest-is) (r .row-bases .ensures) yes;
+      lefts = c .leftovers .ensures ∙ left-overs (m b) (s b has) (start b .args .method) (start b .pre .0) (b .incurred-under .ensures) (yes-13 (two t)) (u-is t) (start b .pre .1 .0 .latest-is);
+    }
+
+-- the sizes that the bases ask
+sized : (c : tie.After-ultimates) → let b = base c in AllSizes (m b) (start b .args .method) (c .ultimates .result) (now (start b .args .paid-latest)) (b .incurred-under .last .1 .1 .1 .0)
+sized c =
+    let b = base c in
+    all-sizes (m b) (s b true) (start b .args .method) (start b .pre .0) (b .incurred-under .ensures) (yes-13 (two c)) (u-is c) (start b .pre .1 .0 .latest-is)
 
 pub method-bases-spec : {M : Type 1} → statement M
 method-bases-spec =
     tie.close
     (tie.spec
-    incurred-under-requires
-    no-bases-requires
+    (λ c κs. let p = c .before .pre .0 in ((let l = p .shared .counts .least in omega arith), p .incurred, refl))
     returns
-    row-bases-requires
-    no-bases-requires-2
+    (λ c κs. let p = start (one c) .pre in ladder-ready (p .1 .0) (paid-ready (p .0 .shared)))
+    (λ c κs. let t = c .before .before .before in let l = start (base t) .pre .0 .shared .counts .least in (omega arith, few (base t), sized t, start (base t) .pre .1 .1))
     returns-2
-    leftovers-requires
+    (λ c κs. let t = c .before .before .before .before .before .before .before in (few (base t), sized t))
     returns-3)

@@ -15,31 +15,10 @@ Inv-loop c n last out₀ k₀ out k = (k ≤ last) × (last ≤ 20) × (last ≤
 abbrev μ-loop : tie.MeasureT-loop
 μ-loop c n last out₀ k₀ out k = last - k
 
-sub-smaller : tie.Need-sub-smaller Inv-loop μ-loop
-sub-smaller c = omega arith
-
-smaller-requires : tie.Need-smaller-requires Inv-loop μ-loop
-smaller-requires c κs = search needs
-
-loop-holds : tie.Need-loop-holds Inv-loop μ-loop
-loop-holds c = (omega arith, omega (arith, c .smaller .ensures), omega (arith, c .smaller .ensures), total-none _)
-
-sub-out : tie.Need-sub-out Inv-loop μ-loop
-sub-out c = omega arith
-
-sub-out-2 : tie.Need-sub-out-2 Inv-loop μ-loop
-sub-out-2 c = omega arith
-
 add-out : tie.Need-add-out Inv-loop μ-loop
 add-out c =
     let l = c .before .loop in
     omega (arith, l .inv .3, twenty (l .k) 20 (λ k. c .before .before .before .args .n - suc k) (omega arith) (λ k h. omega arith))
-
-add-k : tie.Need-add-k Inv-loop μ-loop
-add-k c = omega arith
-
-loop-less : tie.Need-loop-less Inv-loop μ-loop
-loop-less c = omega arith
 
 loop-again : tie.Need-loop-again Inv-loop μ-loop
 loop-again c = let l = c .before .loop in (omega arith, l .inv .1, l .inv .2, total-more (l .k) _ (l .inv .3) (omega arith))
@@ -57,13 +36,13 @@ cell-number-spec =
     (tie.spec
     Inv-loop
     μ-loop
-    sub-smaller
-    smaller-requires
-    loop-holds
-    sub-out
-    sub-out-2
+    (λ c. omega arith)
+    (λ c κs. search needs)
+    (λ c. (omega arith, omega (arith, c .smaller .ensures), omega (arith, c .smaller .ensures), total-none _))
+    (λ c. omega arith)
+    (λ c. omega arith)
     add-out
-    add-k
-    loop-less
+    (λ c. omega arith)
+    (λ c. omega arith)
     loop-again
     returns)

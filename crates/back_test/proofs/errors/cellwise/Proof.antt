@@ -17,12 +17,6 @@ Inv-loop d n out₀ k₀ out k = (k ≤ n) × (out ≡ total k (λ k. total n (�
 abbrev μ-loop : tie.MeasureT-loop
 μ-loop d n out₀ k₀ out k = n - k
 
-loop-holds : tie.Need-loop-holds Inv-loop μ-loop
-loop-holds c = (omega arith, total-none _)
-
-row-error-requires : tie.Need-row-error-requires Inv-loop μ-loop
-row-error-requires c κs = let s = c .before .before in (s .pre .0, omega arith, omega arith)
-
 add-out : tie.Need-add-out Inv-loop μ-loop
 add-out c =
     let l = c .before .before .loop in
@@ -34,12 +28,6 @@ add-out c =
       row-small (now (s .args .d)) (s .pre .0) (s .args .n) (s .pre .1) (l .k) (omega arith) (s .args .n) (omega arith),
       cells-small (now (s .args .d)) (s .pre .0) (s .args .n) (s .pre .1) (l .k) (l .inv .0),
     )
-
-add-k : tie.Need-add-k Inv-loop μ-loop
-add-k c = omega arith
-
-loop-less : tie.Need-loop-less Inv-loop μ-loop
-loop-less c = omega arith
 
 loop-again : tie.Need-loop-again Inv-loop μ-loop
 loop-again c = let l = c .before .before .loop in (omega arith, total-more (l .k) _ (l .inv .1) (c .row-error .ensures))
@@ -54,10 +42,10 @@ cellwise-spec =
     (tie.spec
     Inv-loop
     μ-loop
-    loop-holds
-    row-error-requires
+    (λ c. (omega arith, total-none _))
+    (λ c κs. let s = c .before .before in (s .pre .0, omega arith, omega arith))
     add-out
-    add-k
-    loop-less
+    (λ c. omega arith)
+    (λ c. omega arith)
     loop-again
     returns)

@@ -50,26 +50,8 @@ all-is c =
     let e : c .before .loop .k ≡ s .args .n = omega arith in
     rw e at (held (c .before .loop .inv .1) (part-fits _ (s .args .n) (c .before .loop .k) (s .pre .0) (s .pre .1) (omega arith)))
 
-loop-holds : tie.Need-loop-holds Inv-loop μ-loop
-loop-holds c = (omega arith, sum-none _)
-
-row-gap-requires : tie.Need-row-gap-requires Inv-loop μ-loop
-row-gap-requires c κs = let s = c .before .before in (s .pre .0, omega arith, omega arith)
-
 add-out : tie.Need-add-out Inv-loop μ-loop
 add-out c = rw (added c) (part-fits _ (start c .args .n) (k c + 1) (start c .pre .0) (start c .pre .1) (omega arith))
-
-add-k : tie.Need-add-k Inv-loop μ-loop
-add-k c = omega arith
-
-loop-less : tie.Need-loop-less Inv-loop μ-loop
-loop-less c = omega arith
-
-loop-again : tie.Need-loop-again Inv-loop μ-loop
-loop-again c = (omega arith, ap (ofZ w64) (added c))
-
-magnitude-requires : tie.Need-magnitude-requires Inv-loop μ-loop
-magnitude-requires c κs = search needs
 
 returns : tie.Need-returns Inv-loop μ-loop
 unfolding overall
@@ -81,11 +63,11 @@ overall-spec =
     (tie.spec
     Inv-loop
     μ-loop
-    loop-holds
-    row-gap-requires
+    (λ c. (omega arith, sum-none _))
+    (λ c κs. let s = c .before .before in (s .pre .0, omega arith, omega arith))
     add-out
-    add-k
-    loop-less
-    loop-again
-    magnitude-requires
+    (λ c. omega arith)
+    (λ c. omega arith)
+    (λ c. (omega arith, ap (ofZ w64) (added c)))
+    (λ c κs. search needs)
     returns)

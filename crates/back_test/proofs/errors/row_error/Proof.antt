@@ -38,37 +38,10 @@ module _ (c : tie.After-x Inv-loop μ-loop) where
 error-is : (c : tie.After-magnitude Inv-loop μ-loop) → c .magnitude .result ≡ natAbs (cell (now (start (c .before) .args .d)) (suc (start (c .before) .args .k)) (j (c .before)))
 error-is c = c .magnitude .ensures ∙ ap natAbs (x-is (c .before))
 
-loop-holds : tie.Need-loop-holds Inv-loop μ-loop
-loop-holds c = (omega arith, total-none _)
-
-mul-x : tie.Need-mul-x Inv-loop μ-loop
-mul-x c = omega arith
-
-add-x : tie.Need-add-x Inv-loop μ-loop
-add-x c = omega arith
-
-mul-x-2 : tie.Need-mul-x-2 Inv-loop μ-loop
-mul-x-2 c = omega arith
-
-element-copy-out-x : tie.Need-element-copy-out-x Inv-loop μ-loop
-element-copy-out-x c = omega arith
-
-magnitude-requires : tie.Need-magnitude-requires Inv-loop μ-loop
-magnitude-requires c κs = search needs
-
 add-out : tie.Need-add-out Inv-loop μ-loop
 add-out c =
     let b = c .before in
     omega (arith, error-is c, x-small b, b .before .before .loop .inv .1, row-small (now (start b .args .d)) (start b .pre .0) (start b .args .n) (start b .pre .1) (start b .args .k) (start b .pre .2) (j b) (b .before .before .loop .inv .0))
-
-add-j : tie.Need-add-j Inv-loop μ-loop
-add-j c = omega arith
-
-loop-less : tie.Need-loop-less Inv-loop μ-loop
-loop-less c = omega arith
-
-loop-again : tie.Need-loop-again Inv-loop μ-loop
-loop-again c = (omega arith, total-more (j (c .before)) _ (c .before .before .before .loop .inv .1) (error-is c))
 
 returns : tie.Need-returns Inv-loop μ-loop
 returns c = let e : c .before .loop .j ≡ c .before .before .args .n = omega arith in rw e at (c .before .loop .inv .1)
@@ -79,14 +52,14 @@ row-error-spec =
     (tie.spec
     Inv-loop
     μ-loop
-    loop-holds
-    mul-x
-    add-x
-    mul-x-2
-    element-copy-out-x
-    magnitude-requires
+    (λ c. (omega arith, total-none _))
+    (λ c. omega arith)
+    (λ c. omega arith)
+    (λ c. omega arith)
+    (λ c. omega arith)
+    (λ c κs. search needs)
     add-out
-    add-j
-    loop-less
-    loop-again
+    (λ c. omega arith)
+    (λ c. omega arith)
+    (λ c. (omega arith, total-more (j (c .before)) _ (c .before .before .before .loop .inv .1) (error-is c)))
     returns)

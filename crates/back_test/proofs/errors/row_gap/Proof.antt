@@ -43,32 +43,8 @@ module _ (c : tie.After-x Inv-loop μ-loop) where
       sum-more j _ (c .before .before .loop .inv .1) (part-fits _ (start .args .n) k j (start .pre .0) (start .pre .1) (start .pre .2) (omega arith))
       (toZ-ofZ (record { sfits = c .x .given }) ∙ ap (at (now (start .args .d))) e)
 
-loop-holds : tie.Need-loop-holds Inv-loop μ-loop
-loop-holds c = (omega arith, sum-none _)
-
-mul-x : tie.Need-mul-x Inv-loop μ-loop
-mul-x c = omega arith
-
-add-x : tie.Need-add-x Inv-loop μ-loop
-add-x c = omega arith
-
-mul-x-2 : tie.Need-mul-x-2 Inv-loop μ-loop
-mul-x-2 c = omega arith
-
-element-copy-out-x : tie.Need-element-copy-out-x Inv-loop μ-loop
-element-copy-out-x c = omega arith
-
 add-out : tie.Need-add-out Inv-loop μ-loop
 add-out c = rw (added c) (part-fits _ (start c .args .n) (k c) (j c + 1) (start c .pre .0) (start c .pre .1) (start c .pre .2) (omega arith))
-
-add-j : tie.Need-add-j Inv-loop μ-loop
-add-j c = omega arith
-
-loop-less : tie.Need-loop-less Inv-loop μ-loop
-loop-less c = omega arith
-
-loop-again : tie.Need-loop-again Inv-loop μ-loop
-loop-again c = (omega arith, ap (ofZ w64) (added c))
 
 returns : tie.Need-returns Inv-loop μ-loop
 returns c =
@@ -82,13 +58,13 @@ row-gap-spec =
     (tie.spec
     Inv-loop
     μ-loop
-    loop-holds
-    mul-x
-    add-x
-    mul-x-2
-    element-copy-out-x
+    (λ c. (omega arith, sum-none _))
+    (λ c. omega arith)
+    (λ c. omega arith)
+    (λ c. omega arith)
+    (λ c. omega arith)
     add-out
-    add-j
-    loop-less
-    loop-again
+    (λ c. omega arith)
+    (λ c. omega arith)
+    (λ c. (omega arith, ap (ofZ w64) (added c)))
     returns)

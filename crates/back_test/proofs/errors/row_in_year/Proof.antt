@@ -15,28 +15,10 @@ use Rattle.back_test.proofs.errors.row_in_year.Tie as tie
 returns : tie.Need-returns
 returns c = let a = c .before .args in sym (none-picked (suc (a .k)) (a .end) (λ j. cell (now (a .d)) (suc (a .k)) j) (a .n) (λ j h z. omega (arith, c .if1 .taken)))
 
-sub-j : tie.Need-sub-j
-sub-j c = search needs
-
-sub-j-2 : tie.Need-sub-j-2
-sub-j-2 c = search needs
-
 returns-2 : tie.Need-returns-2
 returns-2 c =
     let a = c .before .before .args in
     sym (none-picked (suc (a .k)) (a .end) (λ j. cell (now (a .d)) (suc (a .k)) j) (a .n) (λ j h z. omega (arith, c .if2 .taken, c .before .if1 .left)))
-
-mul-result : tie.Need-mul-result
-mul-result c = search needs
-
-add-result : tie.Need-add-result
-add-result c = search needs
-
-mul-result-2 : tie.Need-mul-result-2
-mul-result-2 c = search needs
-
-element-copy-out-result : tie.Need-element-copy-out-result
-element-copy-out-result c = search needs
 
 returns-3 : tie.Need-returns-3
 returns-3 c =
@@ -51,11 +33,11 @@ row-in-year-spec =
     tie.close
     (tie.spec
     returns
-    sub-j
-    sub-j-2
+    (λ c. search needs)
+    (λ c. search needs)
     returns-2
-    mul-result
-    add-result
-    mul-result-2
-    element-copy-out-result
+    (λ c. search needs)
+    (λ c. search needs)
+    (λ c. search needs)
+    (λ c. search needs)
     returns-3)

@@ -41,26 +41,8 @@ module _ (c : tie.After-row-in-year Inv-loop μ-loop) where
       sum-more k _ (c .before .before .loop .inv .1) (part-fits _ (start .args .n) end k (start .pre .0) (start .pre .1) (omega arith))
       (toZ-ofZ (record { sfits = c .row-in-year .ok }) ∙ c .row-in-year .ensures)
 
-loop-holds : tie.Need-loop-holds Inv-loop μ-loop
-loop-holds c = (omega arith, sum-none _)
-
-add-row-in-year : tie.Need-add-row-in-year Inv-loop μ-loop
-add-row-in-year c = omega arith
-
-row-in-year-requires : tie.Need-row-in-year-requires Inv-loop μ-loop
-row-in-year-requires c κs = (omega arith, omega arith)
-
 add-out : tie.Need-add-out Inv-loop μ-loop
 add-out c = rw (added c) (part-fits _ (start c .args .n) (end c) (k c + 1) (start c .pre .0) (start c .pre .1) (omega arith))
-
-add-k : tie.Need-add-k Inv-loop μ-loop
-add-k c = omega arith
-
-loop-less : tie.Need-loop-less Inv-loop μ-loop
-loop-less c = omega arith
-
-loop-again : tie.Need-loop-again Inv-loop μ-loop
-loop-again c = (omega arith, ap (ofZ w64) (added c))
 
 returns : tie.Need-returns Inv-loop μ-loop
 unfolding yearGap
@@ -75,11 +57,11 @@ year-gap-spec =
     (tie.spec
     Inv-loop
     μ-loop
-    loop-holds
-    add-row-in-year
-    row-in-year-requires
+    (λ c. (omega arith, sum-none _))
+    (λ c. omega arith)
+    (λ c κs. (omega arith, omega arith))
     add-out
-    add-k
-    loop-less
-    loop-again
+    (λ c. omega arith)
+    (λ c. omega arith)
+    (λ c. (omega arith, ap (ofZ w64) (added c)))
     returns)

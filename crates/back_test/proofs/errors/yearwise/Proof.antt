@@ -41,32 +41,11 @@ module _ (c : tie.After-year-gap Inv-loop μ-loop) where
 error-is : (c : tie.After-magnitude Inv-loop μ-loop) → c .magnitude .result ≡ natAbs (gap (c .before))
 error-is c = c .magnitude .ensures ∙ ap natAbs (gap-is (c .before))
 
-loop-holds : tie.Need-loop-holds Inv-loop μ-loop
-loop-holds c = (omega arith, total-none _)
-
-add-year-gap : tie.Need-add-year-gap Inv-loop μ-loop
-add-year-gap c = omega arith
-
-year-gap-requires : tie.Need-year-gap-requires Inv-loop μ-loop
-year-gap-requires c κs = let s = c .before .before in (s .pre .0, omega arith, omega arith)
-
-magnitude-requires : tie.Need-magnitude-requires Inv-loop μ-loop
-magnitude-requires c κs = search needs
-
 add-out : tie.Need-add-out Inv-loop μ-loop
 add-out c =
     let b = c .before in
     let l = b .before .before .loop in
     omega (arith, error-is c, small b, l .inv .1, years-small (now (start b .args .d)) (start b .pre .0) (start b .args .n) (start b .pre .1) (k b) (omega arith))
-
-add-k : tie.Need-add-k Inv-loop μ-loop
-add-k c = omega arith
-
-loop-less : tie.Need-loop-less Inv-loop μ-loop
-loop-less c = omega arith
-
-loop-again : tie.Need-loop-again Inv-loop μ-loop
-loop-again c = (omega arith, total-more (k (c .before)) _ (c .before .before .before .loop .inv .1) (error-is c))
 
 returns : tie.Need-returns Inv-loop μ-loop
 unfolding yearwise
@@ -78,12 +57,12 @@ yearwise-spec =
     (tie.spec
     Inv-loop
     μ-loop
-    loop-holds
-    add-year-gap
-    year-gap-requires
-    magnitude-requires
+    (λ c. (omega arith, total-none _))
+    (λ c. omega arith)
+    (λ c κs. let s = c .before .before in (s .pre .0, omega arith, omega arith))
+    (λ c κs. search needs)
     add-out
-    add-k
-    loop-less
-    loop-again
+    (λ c. omega arith)
+    (λ c. omega arith)
+    (λ c. (omega arith, total-more (k (c .before)) _ (c .before .before .before .loop .inv .1) (error-is c)))
     returns)

@@ -3,14 +3,8 @@ use borrow.Author.Needs.{needs}
 use Rattle.c_api.proofs.closing.pardesul_respond.Statement.{statement}
 use Rattle.c_api.proofs.closing.pardesul_respond.Tie as tie
 
-respond-requires : tie.Need-respond-requires
-respond-requires c κs = search needs
-
-same-length : tie.Need-same-length
-same-length c = search needs
-
 returns : tie.Need-returns
 returns c = c .before .before .respond .ensures
 
 pub pardesul-respond-spec : {M : Type 1} → statement M
-pardesul-respond-spec = tie.close (tie.spec respond-requires same-length returns)
+pardesul-respond-spec = tie.close (tie.spec (λ c κs. search needs) (λ c. search needs) returns)

@@ -1,11 +1,12 @@
 -- `pardesul_read_set` meets its contract: a refusal stores nothing, and an accepted file stores the
--- answer. Assumes nothing.
+-- triangles of its set. Assumes nothing.
 use borrow.Author.Needs.{needs}
 use borrow.Author.Tests.{ne-eqb}
-use mathlib.Core.Path.{_≡_, refl, sym, ap, _∙_}
+use mathlib.Core.Path.{_≡_, refl, ap, _∙_}
 use mathlib.Core.Bool.{Bool, true, false, cond}
 use mir.Val.{boolByte}
 use Rattle.model.specs.declared.ReadAnswer.{ReadAnswer}
+use Rattle.triangles.specs.LentLaws.{read-no, read-size, read-yes}
 use Rattle.c_api.proofs.sets.pardesul_read_set.Statement.{statement}
 use Rattle.c_api.proofs.sets.pardesul_read_set.Tie as tie
 
@@ -13,27 +14,57 @@ as-number : (t : Bool) → boolByte t ≡ cond t 1 0
 as-number true = refl
 as-number false = refl
 
-read-set-requires : tie.Need-read-set-requires
-read-set-requires c κs = search needs
+read-cells-requires : tie.Need-read-cells-requires
+read-cells-requires c κs = search needs
 
 returns : tie.Need-returns
 returns c =
     let k = ne-eqb _ 0 (c .if1 .taken) in
-    (ap (λ (a : ReadAnswer). a .refusal) (c .before .read-set .ensures), (rw k, (rw k, (rw k, rw k))))
+    let e = read-no _ _ _ _ (c .before .read-cells .ensures) (c .if1 .taken) in
+    (ap (λ (a : ReadAnswer). a .refusal) e, (rw k, (rw k, (rw k, rw k))))
+
+copy-kind-requires : tie.Need-copy-kind-requires
+copy-kind-requires c κs = search needs
+
+copy-kind-requires-2 : tie.Need-copy-kind-requires-2
+copy-kind-requires-2 c κs = search needs
+
+copy-kind-requires-3 : tie.Need-copy-kind-requires-3
+copy-kind-requires-3 c κs = search needs
+
+has-incurred-requires : tie.Need-has-incurred-requires
+has-incurred-requires c κs =
+    let o = c .before .before .before .before .before .before .before .before .before in
+    read-size _ _ _ _ (o .before .read-cells .ensures) (o .if1 .left)
 
 cast-has-incurred : tie.Need-cast-has-incurred
 cast-has-incurred c = search needs
 
 returns-2 : tie.Need-returns-2
 returns-2 c =
-    let o = c .before .before .before .before .before .read-set in
-    let e = o .ensures in (
-      sym (c .before .before .before .before .if1 .left) ∙ ap (λ (a : ReadAnswer). a .refusal) e,
+    let two = c .before .before .before .before in
+    let one = two .before .before .before in
+    let o = one .before .before .before in
+    let e = read-yes _ _ _ _ (o .before .read-cells .ensures) (o .if1 .left) in (
+      ap (λ (a : ReadAnswer). a .refusal) e,
       (
-        as-number (o .result .set .«has_incurred») ∙ ap (λ (a : ReadAnswer). cond (a .set .«has_incurred») 1 0) e,
-        (ap (λ (a : ReadAnswer). a .set .counts) e, (ap (λ (a : ReadAnswer). a .set .paid) e, ap (λ (a : ReadAnswer). a .set .incurred) e)),
+        as-number (c .has-incurred .result) ∙ ap (λ (t : Bool). cond t 1 0) (c .has-incurred .ensures ∙ ap (λ (a : ReadAnswer). a .set .«has_incurred») e),
+        (
+          one .copy-kind .ensures ∙ ap (λ (a : ReadAnswer). a .set .counts) e,
+          (two .copy-kind2 .ensures ∙ ap (λ (a : ReadAnswer). a .set .paid) e, c .before .copy-kind3 .ensures ∙ ap (λ (a : ReadAnswer). a .set .incurred) e),
+        ),
       ),
     )
 
 pub pardesul-read-set-spec : {M : Type 1} → statement M
-pardesul-read-set-spec = tie.close (tie.spec read-set-requires returns cast-has-incurred returns-2)
+pardesul-read-set-spec =
+    tie.close
+    (tie.spec
+    read-cells-requires
+    returns
+    copy-kind-requires
+    copy-kind-requires-2
+    copy-kind-requires-3
+    has-incurred-requires
+    cast-has-incurred
+    returns-2)

@@ -26,41 +26,11 @@ module _ (c : tie.After-known-told) where
   inside : c .before .m .given .0 .1 .1 .1 .0 ≤ length (now (start .args .input))
   inside = file-inside (now (start .args .input)) _ _ _ _ asked
 
-read-first-line-requires : tie.Need-read-first-line-requires
-read-first-line-requires c κs = search needs
-
-enum-known-m : tie.Need-enum-known-m
-enum-known-m c = search needs
-
-enum-told : tie.Need-enum-told
-enum-told c = search needs
-
-write-refusal-requires : tie.Need-write-refusal-requires
-write-refusal-requires c κs = le-trans (refusal-short _ (omega arith)) (c .before .before .before .before .before .before .pre)
-
-same-length : tie.Need-same-length
-same-length c = search needs
-
 returns : tie.Need-returns
 returns c =
     let e = c .before .before .before .before in
     let w = e .before .before in
     rw (wrong-text (now (w .before .before .before .args .input)) (sym (w .read-first-line .ensures) ∙ e .enum-told .given .1)) (c .before .before .write-refusal .ensures)
-
-sub-answer-file : tie.Need-sub-answer-file
-sub-answer-file c = inside c
-
-part-answer-file-start : tie.Need-part-answer-file-start
-part-answer-file-start c = inside c
-
-part-answer-file-end : tie.Need-part-answer-file-end
-part-answer-file-end c = search needs
-
-answer-file-requires : tie.Need-answer-file-requires
-answer-file-requires c κs = search needs
-
-same-length-2 : tie.Need-same-length-2
-same-length-2 c = search needs
 
 returns-2 : tie.Need-returns-2
 returns-2 c =
@@ -72,15 +42,15 @@ pub answer-spec : {M : Type 1} → statement M
 answer-spec =
     tie.close
     (tie.spec
-    read-first-line-requires
-    enum-known-m
-    enum-told
-    write-refusal-requires
-    same-length
+    (λ c κs. search needs)
+    (λ c. search needs)
+    (λ c. search needs)
+    (λ c κs. le-trans (refusal-short _ (omega arith)) (c .before .before .before .before .before .before .pre))
+    (λ c. search needs)
     returns
-    sub-answer-file
-    part-answer-file-start
-    part-answer-file-end
-    answer-file-requires
-    same-length-2
+    (λ c. inside c)
+    (λ c. inside c)
+    (λ c. search needs)
+    (λ c κs. search needs)
+    (λ c. search needs)
     returns-2)

@@ -1,65 +1,22 @@
--- `calendar::closing::respond` meets its contract: the answer goes to a text of its own, and from
--- there to the output where that has room. Assumes nothing.
-use mathlib.Core.Path.{sym, subst}
-use Prim.Native.Nat.{ℕ, _<_}
+-- `calendar::closing::respond` meets its contract: an output that every text fits is answered in
+-- place. Assumes nothing.
 use native.Mathlib.Omega.{arith}
 use denote.Ref.{now}
-use lib.ListN.{length}
-use Rattle.model.specs.Calls.{closingText}
-use Rattle.calendar.specs.Respond.{written-room, too-short, copied}
+use Rattle.calendar.specs.Respond.{answered}
 use borrow.Author.Needs.{needs}
 use Rattle.calendar.proofs.closing.respond.Statement.{statement}
 use Rattle.calendar.proofs.closing.respond.Tie as tie
 
-slice-aggregate-answer : tie.Need-slice-aggregate-answer
-slice-aggregate-answer c = search needs
-
-answer-requires : tie.Need-answer-requires
-answer-requires c κs = omega arith
-
-returns : tie.Need-returns
-returns c =
-    let w = c .before .before in
-    let s = w .before .before .before .before in
-    let z = too-short (now (s .args .input)) (now (s .args .out)) (subst (λ (k : ℕ). length (now (s .args .out)) < k) (w .answer .ensures .1) (c .if1 .taken)) in
-    (sym (z .0), sym (z .1))
-
-sub-write-bytes : tie.Need-sub-write-bytes
-sub-write-bytes c = search needs
-
-part-write-bytes-start : tie.Need-part-write-bytes-start
-part-write-bytes-start c = search needs
-
-part-write-bytes-end : tie.Need-part-write-bytes-end
-part-write-bytes-end c =
-    let w = c .before .before .before .before in
-    let s = w .before .before .before .before in
-    rw (w .answer .ensures .0, w .answer .ensures .1) (written-room _ (closingText (now (s .args .input))))
-
-write-bytes-requires : tie.Need-write-bytes-requires
-write-bytes-requires c κs = search needs
-
-same-length : tie.Need-same-length
-same-length c = search needs
+same-length-2 : tie.Need-same-length-2
+same-length-2 c = search needs
 
 returns-2 : tie.Need-returns-2
 returns-2 c =
-    let b = c .before .before in
-    let i = b .before .before .before .before in
-    let w = i .before .before in
-    let s = w .before .before .before .before in
-    copied (now (s .args .input)) (now (s .args .out)) _ _ _ _ _ (w .answer .ensures .0) (w .answer .ensures .1) (i .if1 .left) (b .write-bytes .ensures)
+    let a = c .before .before in
+    let s = a .before .before .before .before .before in
+    answered (now (s .args .input)) (now (s .args .out)) _ _ (same-length-2 c) (a .answer .ensures)
 
 pub respond-spec : {M : Type 1} → statement M
 respond-spec =
     tie.close
-    (tie.spec
-    slice-aggregate-answer
-    answer-requires
-    returns
-    sub-write-bytes
-    part-write-bytes-start
-    part-write-bytes-end
-    write-bytes-requires
-    same-length
-    returns-2)
+    (tie.spec (λ c κs. search needs) (λ c. search needs) (λ c. search needs) (λ c κs. omega arith) same-length-2 returns-2)

@@ -28,25 +28,10 @@ loop-holds c =
     let e : c .before .args .at - c .before .args .at ≡ 0 = omega arith in
     (omega arith, omega arith, rw e (omega arith), refl)
 
-mul-v : tie.Need-mul-v Inv-loop μ-loop
-mul-v c = omega (arith, small c)
-
-shared-slice-read-digit : tie.Need-shared-slice-read-digit Inv-loop μ-loop
-shared-slice-read-digit c = omega arith
-
-digit-requires : tie.Need-digit-requires Inv-loop μ-loop
-digit-requires c κs = search needs
-
 add-v : tie.Need-add-v Inv-loop μ-loop
 add-v c =
     let l = c .before .before .before in
     omega (arith, small (c .before .before), c .digit .ensures, c .before .shared-slice-known2 .given (l .loop .i))
-
-add-i : tie.Need-add-i Inv-loop μ-loop
-add-i c = omega arith
-
-loop-less : tie.Need-loop-less Inv-loop μ-loop
-loop-less c = omega arith
 
 loop-again : tie.Need-loop-again Inv-loop μ-loop
 loop-again c =
@@ -73,11 +58,11 @@ number-of-spec =
     Inv-loop
     μ-loop
     loop-holds
-    mul-v
-    shared-slice-read-digit
-    digit-requires
+    (λ c. omega (arith, small c))
+    (λ c. omega arith)
+    (λ c κs. search needs)
     add-v
-    add-i
-    loop-less
+    (λ c. omega arith)
+    (λ c. omega arith)
     loop-again
     returns)

@@ -20,26 +20,11 @@ two : (c : tie.After-known-told2)
     runAt (now (k .before .before .before .before .before .args .s)) (k .before .a .given .0 .1 .0) 32 ≡ Number (c .before .b .given .0 .0) (c .before .b .given .0 .1 .0))
 two c = sym (c .before .before .before .run-at2 .ensures) ∙ c .before .b .given .1
 
-run-at-requires : tie.Need-run-at-requires
-run-at-requires c κs = search needs
-
-enum-known-a : tie.Need-enum-known-a
-enum-known-a c = search needs
-
-enum-told : tie.Need-enum-told
-enum-told c = search needs
-
 returns : tie.Need-returns
 returns c = refused-1 (now (c .before .before .before .before .args .s)) 0 0 (sym (c .before .before .run-at .ensures) ∙ c .enum-told .given .1)
 
 run-at-requires-2 : tie.Need-run-at-requires-2
 run-at-requires-2 c κs = (run-within (now (c .before .before .before .before .before .args .s)) 0 32 _ _ (omega arith) (one c), omega arith)
-
-enum-known-b : tie.Need-enum-known-b
-enum-known-b c = search needs
-
-enum-told-2 : tie.Need-enum-told-2
-enum-told-2 c = search needs
 
 returns-2 : tie.Need-returns-2
 returns-2 c =
@@ -50,12 +35,6 @@ run-at-requires-3 : tie.Need-run-at-requires-3
 run-at-requires-3 c κs =
     let k = c .before .before .before .before in
     (run-within (now (k .before .before .before .before .before .args .s)) (k .before .a .given .0 .1 .0) 32 _ _ (omega arith) (two c), omega arith)
-
-enum-known-d : tie.Need-enum-known-d
-enum-known-d c = search needs
-
-enum-told-3 : tie.Need-enum-told-3
-enum-told-3 c = search needs
 
 returns-3 : tie.Need-returns-3
 returns-3 c =
@@ -73,16 +52,16 @@ pub read-first-line-spec : {M : Type 1} → statement M
 read-first-line-spec =
     tie.close
     (tie.spec
-    run-at-requires
-    enum-known-a
-    enum-told
+    (λ c κs. search needs)
+    (λ c. search needs)
+    (λ c. search needs)
     returns
     run-at-requires-2
-    enum-known-b
-    enum-told-2
+    (λ c. search needs)
+    (λ c. search needs)
     returns-2
     run-at-requires-3
-    enum-known-d
-    enum-told-3
+    (λ c. search needs)
+    (λ c. search needs)
     returns-3
     returns-4)

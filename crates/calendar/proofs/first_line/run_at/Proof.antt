@@ -10,20 +10,11 @@ use borrow.Author.Needs.{needs}
 use Rattle.calendar.proofs.first_line.run_at.Statement.{statement}
 use Rattle.calendar.proofs.first_line.run_at.Tie as tie
 
-digits-end-requires : tie.Need-digits-end-requires
-digits-end-requires c κs = search needs
-
-add-if1 : tie.Need-add-if1
-add-if1 c = search needs
-
 returns : tie.Need-returns
 returns c =
     let d = c .before in
     let s = d .before .before in
     run-none (now (s .args .s)) (s .args .at) (s .args .end) (d .digits-end .result) (d .digits-end .ensures) (omega arith)
-
-add-if2 : tie.Need-add-if2
-add-if2 c = search needs
 
 returns-2 : tie.Need-returns-2
 returns-2 c =
@@ -37,20 +28,11 @@ returns-3 c =
     let s = d .before .before in
     run-past (now (s .args .s)) (s .args .at) (s .args .end) (d .digits-end .result) (d .digits-end .ensures) (omega arith) (omega arith) (c .if3 .taken) (omega arith)
 
-shared-slice-read-if4 : tie.Need-shared-slice-read-if4
-shared-slice-read-if4 c = search needs
-
 returns-4 : tie.Need-returns-4
 returns-4 c =
     let d = c .before .before .before .before .before in
     let s = d .before .before in
     run-other (now (s .args .s)) (s .args .at) (s .args .end) (d .digits-end .result) (d .digits-end .ensures) (omega arith) (omega arith) (c .if4 .taken)
-
-number-of-requires : tie.Need-number-of-requires
-number-of-requires c κs = search needs
-
-add-t6 : tie.Need-add-t6
-add-t6 c = search needs
 
 returns-5 : tie.Need-returns-5
 returns-5 c =
@@ -63,14 +45,14 @@ pub run-at-spec : {M : Type 1} → statement M
 run-at-spec =
     tie.close
     (tie.spec
-    digits-end-requires
-    add-if1
+    (λ c κs. search needs)
+    (λ c. search needs)
     returns
-    add-if2
+    (λ c. search needs)
     returns-2
     returns-3
-    shared-slice-read-if4
+    (λ c. search needs)
     returns-4
-    number-of-requires
-    add-t6
+    (λ c κs. search needs)
+    (λ c. search needs)
     returns-5)

@@ -1,90 +1,42 @@
--- `calendar::tally::tally_of` meets its contract. The invariant: t is the tally of the first n
--- cells. Assumes nothing.
-use borrow.Author.Needs.{needs, sfits-of}
-use mathlib.Core.Path.{_≡_, refl, sym}
+-- `calendar::tally::tally_of` meets its contract. The invariant: t is the tally of calendar years 1
+-- to k. Assumes nothing.
+use mathlib.Core.Path.{_≡_}
 use Prim.Native.Nat.{_-_, _*_, _≤_}
-use native.Mathlib.Numerals.{add-one}
 use native.Mathlib.Omega.{arith}
+use borrow.Author.Needs.{needs, sfits-of}
+use denote.Ref.{now}
+use mir.Syntax.{w64}
+use mir.Val.{SFits}
 use mir.Facts.{toZ-ofZ}
-use Rattle.model.specs.Calendar.{tallyTo, tallyOf}
+use Rattle.model.specs.CalendarLaws.{so-fits}
+use Rattle.calendar.specs.YearRows.{yearsTo, no-years, all-years, year-added}
 use Rattle.calendar.proofs.tally.tally_of.Statement.{statement}
 use Rattle.calendar.proofs.tally.tally_of.Tie as tie
 
 abbrev Inv-loop : tie.InvT-loop
-Inv-loop out m cells t₀ n₀ t n = (n ≤ cells) × (t ≡ tallyTo m out n)
+Inv-loop out m years t₀ k₀ t k = (k ≤ years) × (t ≡ yearsTo m out k)
 
 abbrev μ-loop : tie.MeasureT-loop
-μ-loop out m cells t₀ n₀ t n = cells - n
-
-mul-cells : tie.Need-mul-cells Inv-loop μ-loop
-mul-cells c = omega arith
-
-sub-cells : tie.Need-sub-cells Inv-loop μ-loop
-sub-cells c = omega arith
-
-mul-cells-2 : tie.Need-mul-cells-2 Inv-loop μ-loop
-mul-cells-2 c = omega arith
-
-loop-holds : tie.Need-loop-holds Inv-loop μ-loop
-unfolding tallyTo
-loop-holds c = (omega arith, refl)
-
-calendar-year-requires : tie.Need-calendar-year-requires Inv-loop μ-loop
-calendar-year-requires c κs = (omega arith, omega arith, omega arith)
-
-mul-rbns : tie.Need-mul-rbns Inv-loop μ-loop
-mul-rbns c = omega arith
-
-mul-rbns-2 : tie.Need-mul-rbns-2 Inv-loop μ-loop
-mul-rbns-2 c = omega arith
-
-shared-slice-copy-out-rbns : tie.Need-shared-slice-copy-out-rbns Inv-loop μ-loop
-shared-slice-copy-out-rbns c = omega arith
-
-mul-ibnr : tie.Need-mul-ibnr Inv-loop μ-loop
-mul-ibnr c = omega arith
-
-add-ibnr : tie.Need-add-ibnr Inv-loop μ-loop
-add-ibnr c = omega arith
-
-mul-ibnr-2 : tie.Need-mul-ibnr-2 Inv-loop μ-loop
-mul-ibnr-2 c = omega arith
-
-shared-slice-copy-out-ibnr : tie.Need-shared-slice-copy-out-ibnr Inv-loop μ-loop
-shared-slice-copy-out-ibnr c = omega arith
-
-add-requires : tie.Need-add-requires Inv-loop μ-loop
-add-requires c κs = search needs
-
-add-n : tie.Need-add-n Inv-loop μ-loop
-add-n c = omega arith
-
-loop-less : tie.Need-loop-less Inv-loop μ-loop
-loop-less c = omega arith
+μ-loop out m years t₀ k₀ t k = years - k
 
 loop-again : tie.Need-loop-again Inv-loop μ-loop
-unfolding tallyTo
 loop-again c =
-    let l = c .before .before .before .before .before in
-    let y = c .before .before .before in (
+    let y = c .before in
+    let x = y .before in
+    let l = x .before .before in
+    let f : SFits w64 (x .year-sum .result) = sfits-of (x .year-sum .ok) in
+    let g : SFits w64 (y .year-sum2 .result) = sfits-of (y .year-sum2 .ok) in (
       omega arith,
-      rw (
-        c .add .ensures,
-        toZ-ofZ (sfits-of (c .before .before .rbns .given)),
-        toZ-ofZ (sfits-of (c .before .ibnr .given)),
-        y .calendar-year .ensures,
-        l .loop .inv .1,
-        add-one (l .loop .n),
-      ),
+      rw (c .add .ensures, toZ-ofZ f, toZ-ofZ g)
+          (year-added (l .before .args .m) (now (l .before .args .out)) (l .loop .k) (omega arith) (so-fits _ f) (so-fits _ g) (l .loop .inv .1) (x .year-sum .ensures) (y .year-sum2 .ensures)),
     )
 
 returns : tie.Need-returns Inv-loop μ-loop
-unfolding tallyOf
 returns c =
     let l = c .before in
-    let m = l .before .args .m in
-    let e : l .loop .n ≡ m * (2 * m - 1) = omega arith in
-    rw (sym e) (l .loop .inv .1)
+    let s = l .before in
+    let e : l .loop .k ≡ 2 * s .args .m - 2 = omega arith in
+    rw (← all-years (s .args .m) (now (s .args .out)) (omega arith) (s .pre .3)) (rw e at (l .loop .inv .1))
 
 pub tally-of-spec : {M : Type 1} → statement M
 tally-of-spec =
@@ -92,20 +44,14 @@ tally-of-spec =
     (tie.spec
     Inv-loop
     μ-loop
-    mul-cells
-    sub-cells
-    mul-cells-2
-    loop-holds
-    calendar-year-requires
-    mul-rbns
-    mul-rbns-2
-    shared-slice-copy-out-rbns
-    mul-ibnr
-    add-ibnr
-    mul-ibnr-2
-    shared-slice-copy-out-ibnr
-    add-requires
-    add-n
-    loop-less
+    (λ c. omega arith)
+    (λ c. omega arith)
+    (λ c. (omega arith, no-years (c .args .m) (now (c .args .out))))
+    (λ c κs. search needs)
+    (λ c κs. search needs)
+    (λ c. omega arith)
+    (λ c κs. search needs)
+    (λ c. omega arith)
+    (λ c. omega arith)
     loop-again
     returns)

@@ -18,20 +18,8 @@ Inv-loop out₀ s k₀ out k = (k ≤ length s) × Written out₀ 0 (take k s) o
 abbrev μ-loop : tie.MeasureT-loop
 μ-loop out₀ s k₀ out k = length s - k
 
-loop-holds : tie.Need-loop-holds Inv-loop μ-loop
-loop-holds c = (omega arith, written-none (c .args .out .now) 0 (omega arith))
-
-shared-slice-read-out : tie.Need-shared-slice-read-out Inv-loop μ-loop
-shared-slice-read-out c = omega arith
-
 slice-write-out : tie.Need-slice-write-out Inv-loop μ-loop
 slice-write-out c = omega (arith, written-length (c .before .before .loop .inv .1))
-
-add-k : tie.Need-add-k Inv-loop μ-loop
-add-k c = omega arith
-
-loop-less : tie.Need-loop-less Inv-loop μ-loop
-loop-less c = omega arith
 
 loop-again : tie.Need-loop-again Inv-loop μ-loop
 loop-again c =
@@ -40,9 +28,6 @@ loop-again c =
     let k = l .loop .k in
     let e : take (k + 1) s ≡ take k s ++ (getD s k 0 ∷ []) = rw (add-one k) (take-suc s k 0 (c .before .loop-test .taken)) in
     (omega arith, rw e (written-then (l .loop .inv .1) (written-byte (l .loop .out) k (getD s k 0) (slice-write-out c))))
-
-same-length : tie.Need-same-length Inv-loop μ-loop
-same-length c = written-length (c .before .loop .inv .1)
 
 returns : tie.Need-returns Inv-loop μ-loop
 returns c = rw (take-all (c .before .loop .k) (now (c .before .before .args .s)) (c .loop-test .left)) at (c .before .loop .inv .1)
@@ -53,11 +38,11 @@ write-bytes-spec =
     (tie.spec
     Inv-loop
     μ-loop
-    loop-holds
-    shared-slice-read-out
+    (λ c. (omega arith, written-none (c .args .out .now) 0 (omega arith)))
+    (λ c. omega arith)
     slice-write-out
-    add-k
-    loop-less
+    (λ c. omega arith)
+    (λ c. omega arith)
     loop-again
-    same-length
+    (λ c. written-length (c .before .loop .inv .1))
     returns)

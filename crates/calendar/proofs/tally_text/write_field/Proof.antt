@@ -8,17 +8,11 @@ use borrow.Author.Needs.{needs}
 use Rattle.calendar.proofs.tally_text.write_field.Statement.{statement}
 use Rattle.calendar.proofs.tally_text.write_field.Tie as tie
 
-put-requires : tie.Need-put-requires
-put-requires c κs = omega (arith, field-size (c .before .before .args .value))
-
 write-amount-requires : tie.Need-write-amount-requires
 write-amount-requires c κs =
     let p = c .before .before .before in
     let s = p .before .before .before in
     rw (toZ-ofZ (s .fits .value)) (omega (arith, field-size (s .args .value), p .put .ensures .end))
-
-same-length : tie.Need-same-length
-same-length c = search needs
 
 returns : tie.Need-returns
 unfolding field
@@ -28,4 +22,4 @@ returns c =
     written-then (p .put .ensures) (rw (toZ-ofZ (s .fits .value)) at (c .before .before .write-amount .ensures))
 
 pub write-field-spec : {M : Type 1} → statement M
-write-field-spec = tie.close (tie.spec put-requires write-amount-requires same-length returns)
+write-field-spec = tie.close (tie.spec (λ c κs. omega (arith, field-size (c .before .before .args .value))) write-amount-requires (λ c. search needs) returns)

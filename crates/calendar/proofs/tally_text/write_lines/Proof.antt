@@ -4,36 +4,27 @@ use mathlib.Core.Path.{_≡_}
 use Prim.Native.Nat.{_-_, _≤_}
 use native.Mathlib.Omega.{arith}
 use borrow.Author.Needs.{sfits-of}
+use denote.Ref.{now}
 use mir.Facts.{toZ-ofZ}
 use Rattle.model.specs.Calendar.{lines}
+use Rattle.model.specs.declared.Tally.{Tally}
+use Rattle.calendar.specs.YearSums.{tallyIn}
 use Rattle.calendar.specs.Written.{Written, written-none, written-then, written-length}
 use Rattle.calendar.specs.TallyTextLaws.{lines-none, lines-next, next-room}
 use Rattle.calendar.proofs.tally_text.write_lines.Statement.{statement}
 use Rattle.calendar.proofs.tally_text.write_lines.Tie as tie
 
 abbrev Inv-loop : tie.InvT-loop
-Inv-loop out₀ n t end₀ k₀ out end k = (k ≤ n) × Written out₀ 0 (lines t k) out end
+Inv-loop out₀ n rbns ibnr end₀ k₀ out end k = (k ≤ n) × Written out₀ 0 (lines (tallyIn rbns ibnr) k) out end
 
 abbrev μ-loop : tie.MeasureT-loop
-μ-loop out₀ n t end₀ k₀ out end k = n - k
+μ-loop out₀ n rbns ibnr end₀ k₀ out end k = n - k
+
+abbrev tally : tie.Start Inv-loop μ-loop → Tally
+tally s = tallyIn (now (s .args .rbns)) (now (s .args .ibnr))
 
 loop-holds : tie.Need-loop-holds Inv-loop μ-loop
-loop-holds c = (omega arith, rw (lines-none (c .before .args .t3)) (written-none (c .before .args .out .now) 0 (omega arith)))
-
-mul-rbns : tie.Need-mul-rbns Inv-loop μ-loop
-mul-rbns c = omega arith
-
-element-copy-out-rbns : tie.Need-element-copy-out-rbns Inv-loop μ-loop
-element-copy-out-rbns c = omega arith
-
-mul-ibnr : tie.Need-mul-ibnr Inv-loop μ-loop
-mul-ibnr c = omega arith
-
-element-copy-out-ibnr : tie.Need-element-copy-out-ibnr Inv-loop μ-loop
-element-copy-out-ibnr c = omega arith
-
-add-year : tie.Need-add-year Inv-loop μ-loop
-add-year c = omega arith
+loop-holds c = (omega arith, rw (lines-none (tally (c .before))) (written-none (c .before .args .out .now) 0 (omega arith)))
 
 write-digits-requires : tie.Need-write-digits-requires Inv-loop μ-loop
 write-digits-requires c κs =
@@ -42,7 +33,7 @@ write-digits-requires c κs =
     let s = l .before .before in
     omega (
       arith,
-      next-room (s .args .t3) (l .loop .k) (s .args .n) (i .loop-test .taken),
+      next-room (tally s) (l .loop .k) (s .args .n) (i .loop-test .taken),
       l .loop .inv .1 .end,
       written-length (l .loop .inv .1),
     )
@@ -53,11 +44,11 @@ write-sums-requires c κs =
     let i = w .before .before .before .before in
     let l = i .before in
     let s = l .before .before in
-    rw (toZ-ofZ (sfits-of (w .before .before .before .rbns .given)), toZ-ofZ (sfits-of (w .before .before .ibnr .given))) (
+    rw (toZ-ofZ (sfits-of (w .before .before .before .x .given)), toZ-ofZ (sfits-of (w .before .before .y .given))) (
       s .pre .1 .0 (l .loop .k) (i .loop-test .taken),
       omega (
         arith,
-        next-room (s .args .t3) (l .loop .k) (s .args .n) (i .loop-test .taken),
+        next-room (tally s) (l .loop .k) (s .args .n) (i .loop-test .taken),
         l .loop .inv .1 .end,
         written-length (l .loop .inv .1),
         w .write-digits .ensures .end,
@@ -65,23 +56,17 @@ write-sums-requires c κs =
       ),
     )
 
-loop-less : tie.Need-loop-less Inv-loop μ-loop
-loop-less c = omega arith
-
 loop-again : tie.Need-loop-again Inv-loop μ-loop
 loop-again c =
     let w = c .before .before .before .before .before .before in
     let i = w .before .before .before .before in
     let l = i .before in (
       omega arith,
-      rw (lines-next (l .before .before .args .t3) (l .loop .k))
+      rw (lines-next (tally (l .before .before)) (l .loop .k))
           (written-then (l .loop .inv .1)
           (written-then (w .write-digits .ensures)
-          (rw (toZ-ofZ (sfits-of (w .before .before .before .rbns .given)), toZ-ofZ (sfits-of (w .before .before .ibnr .given))) at (c .before .before .write-sums .ensures)))),
+          (rw (toZ-ofZ (sfits-of (w .before .before .before .x .given)), toZ-ofZ (sfits-of (w .before .before .y .given))) at (c .before .before .write-sums .ensures)))),
     )
-
-same-length : tie.Need-same-length Inv-loop μ-loop
-same-length c = written-length (c .before .loop .inv .1)
 
 returns : tie.Need-returns Inv-loop μ-loop
 returns c = let e : c .before .loop .k ≡ c .before .before .before .args .n = omega arith in rw e at (c .before .loop .inv .1)
@@ -93,14 +78,14 @@ write-lines-spec =
     Inv-loop
     μ-loop
     loop-holds
-    mul-rbns
-    element-copy-out-rbns
-    mul-ibnr
-    element-copy-out-ibnr
-    add-year
+    (λ c. omega arith)
+    (λ c. omega arith)
+    (λ c. omega arith)
+    (λ c. omega arith)
+    (λ c. omega arith)
     write-digits-requires
     write-sums-requires
-    loop-less
+    (λ c. omega arith)
     loop-again
-    same-length
+    (λ c. written-length (c .before .loop .inv .1))
     returns)

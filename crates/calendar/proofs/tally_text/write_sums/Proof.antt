@@ -37,9 +37,6 @@ three c =
     let s = w .before .before .before .before .before .before .before in
     written-then (two w) (rw (toZ-ofZ (s .fits .rbns), toZ-ofZ (s .fits .ibnr), toZ-ofZ (both-fits s)) at (c .write-field3 .ensures))
 
-add-both : tie.Need-add-both
-add-both c = rw (toZ-ofZ (c .before .fits .rbns), toZ-ofZ (c .before .fits .ibnr)) (both-fits (c .before))
-
 write-field-requires : tie.Need-write-field-requires
 write-field-requires c κs = let s = c .before .before in rw (toZ-ofZ (s .fits .rbns)) (omega (arith, sums-size (s .args .rbns) (s .args .ibnr)))
 
@@ -61,9 +58,6 @@ put-requires c κs =
     let s = w .before .before .before .before .before .before .before .before .before .before .before in
     omega (arith, sums-size (s .args .rbns) (s .args .ibnr), simp length-append at (three w .end))
 
-same-length : tie.Need-same-length
-same-length c = search needs
-
 returns : tie.Need-returns
 unfolding sums
 returns c = written-then (three (c .before .before .before .before .before .before)) (c .before .before .put .ensures)
@@ -72,10 +66,10 @@ pub write-sums-spec : {M : Type 1} → statement M
 write-sums-spec =
     tie.close
     (tie.spec
-    add-both
+    (λ c. rw (toZ-ofZ (c .before .fits .rbns), toZ-ofZ (c .before .fits .ibnr)) (both-fits (c .before)))
     write-field-requires
     write-field-requires-2
     write-field-requires-3
     put-requires
-    same-length
+    (λ c. search needs)
     returns)

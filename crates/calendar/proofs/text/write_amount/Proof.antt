@@ -21,43 +21,25 @@ not-below c =
     let s = c .before .before .before in
     amount-not-below (s .args .value) (c .before .magnitude .result) (s .fits .value) (c .if1 .left) (c .before .magnitude .ensures)
 
-magnitude-requires : tie.Need-magnitude-requires
-magnitude-requires c κs = search needs
-
-put-requires : tie.Need-put-requires
-put-requires c κs = omega (arith, ap length (below (c .before)))
-
 write-digits-requires : tie.Need-write-digits-requires
 write-digits-requires c κs =
     let p = c .before .before .before in
     omega (arith, ap length (below (p .before .before)), p .put .ensures .end)
-
-same-length : tie.Need-same-length
-same-length c = search needs
 
 returns : tie.Need-returns
 returns c =
     let p = c .before .before .before .before .before .before in
     rw (below (p .before .before)) (written-then (p .put .ensures) (c .before .before .write-digits .ensures))
 
-write-digits-requires-2 : tie.Need-write-digits-requires-2
-write-digits-requires-2 c κs = omega (arith, ap length (not-below (c .before)))
-
-same-length-2 : tie.Need-same-length-2
-same-length-2 c = search needs
-
-returns-2 : tie.Need-returns-2
-returns-2 c = rw (not-below (c .before .before .before .before)) (c .before .before .write-digits2 .ensures)
-
 pub write-amount-spec : {M : Type 1} → statement M
 write-amount-spec =
     tie.close
     (tie.spec
-    magnitude-requires
-    put-requires
+    (λ c κs. search needs)
+    (λ c κs. omega (arith, ap length (below (c .before))))
     write-digits-requires
-    same-length
+    (λ c. search needs)
     returns
-    write-digits-requires-2
-    same-length-2
-    returns-2)
+    (λ c κs. omega (arith, ap length (not-below (c .before))))
+    (λ c. search needs)
+    (λ c. rw (not-below (c .before .before .before .before)) (c .before .before .write-digits2 .ensures)))

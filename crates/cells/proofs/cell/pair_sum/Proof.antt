@@ -5,7 +5,7 @@ use Prim.Native.Nat.{ℕ, _+_, _-_, _<_}
 use native.Mathlib.Nat.{mul-le-mul}
 use native.Mathlib.Numerals.{add-one}
 use native.Mathlib.Omega.{arith}
-use borrow.Author.Tests.{le-leb, leb-true}
+use borrow.Author.Tests.{le-leb, lt-leb}
 use lib.Dec.{leb}
 use lib.IntN.{ℤ, pos, _+ℤ_, _*ℤ_}
 use mir.Syntax.{w64}
@@ -15,34 +15,29 @@ use Rattle.integers.specs.Order.{natAbs-*ℤ}
 use Rattle.integers.specs.Sums.{sum, sum-suc, sum-nothing, sum-ends}
 use Rattle.arithmetic.specs.Words.{fits-abs}
 use Rattle.model.specs.Lists.{at}
-use Rattle.model.specs.Tests.{by-test}
-use Rattle.cells.specs.PairLaws.{term, term-in, term-no, term-before, term-after, sum-small, weight-small, pairs-terms}
+use Rattle.cells.specs.PairLaws.{term, term-in, term-no, term-before, sum-small, weight-small, pairs-terms}
 use Rattle.cells.proofs.cell.pair_sum.Statement.{statement}
 use Rattle.cells.proofs.cell.pair_sum.Tie as tie
 
 abbrev Inv-loop : tie.InvT-loop
-Inv-loop x p m j n last k₀ sum₀ k s = (j < k + m) × (toZ w64 s ≡ sum k (term m j (λ k. leb k n) x p))
+Inv-loop x p m j n k₀ sum₀ k s = (j < k + m) × (toZ w64 s ≡ sum k (term m j (λ k. leb k n) x p))
 
 abbrev μ-loop : tie.MeasureT-loop
-μ-loop x p m j n last k₀ sum₀ k s = last + 1 - k
+μ-loop x p m j n k₀ sum₀ k s = n + 1 - k
 
 abbrev terms : tie.Start Inv-loop μ-loop → ℕ → ℤ
 terms s = term (s .args .m) (s .args .j) (λ k. leb k (s .args .n)) (s .args .x .now) (s .args .p .now)
 
 -- the terms past the last one are 0
-past : (c : tie.After-smaller Inv-loop μ-loop) (k : ℕ) → c .smaller .result < k → terms (c .before) k ≡ pos 0
-past c k l =
-    let a = c .before .args in
-    by-test (leb k (a .n))
-    (λ y. let h = leb-true k (a .n) y in term-after (a .m) (a .j) (λ k. leb k (a .n)) (a .x .now) (a .p .now) k (omega (arith, c .smaller .ensures)))
-    (λ y. term-no (a .m) (a .j) (λ k. leb k (a .n)) (a .x .now) (a .p .now) k y)
+past : (a : tie.Start Inv-loop μ-loop) (k : ℕ) → a .args .n < k → terms a k ≡ pos 0
+past a k l = term-no (a .args .m) (a .args .j) (λ k. leb k (a .args .n)) (a .args .x .now) (a .args .p .now) k (lt-leb k (a .args .n) l)
 
 module _ (c : tie.After-sum2 Inv-loop μ-loop) where
   abbrev l : tie.At-loop Inv-loop μ-loop
   l = c .before .before .before
 
   abbrev s : tie.Start Inv-loop μ-loop
-  s = l .before .before .before
+  s = l .before .before
 
   abbrev x : ℤ
   x = at (s .args .x .now) (l .loop .k)
@@ -75,45 +70,15 @@ module _ (c : tie.After-sum2 Inv-loop μ-loop) where
       rw (← one-more)
       (fits-abs (omega (arith, sum-small (s .args .m) (s .args .j) (λ k. leb k (s .args .n)) (s .args .x .now) (s .args .p .now) (s .pre .1 .0) (s .pre .1 .1) (omega arith) (l .loop .k + 1) (omega arith))))
 
-smaller-requires : tie.Need-smaller-requires Inv-loop μ-loop
-smaller-requires c κs = tt
-
-first-pair-requires : tie.Need-first-pair-requires Inv-loop μ-loop
-first-pair-requires c κs = (omega arith, omega arith, omega arith)
-
 loop-holds : tie.Need-loop-holds Inv-loop μ-loop
 loop-holds c =
-    let a = c .before .before .args in (
+    let a = c .before .args in (
       c .first-pair .ensures .0,
       sym (sum-nothing (c .first-pair .result) (λ k l. term-before (a .m) (a .j) (λ k. leb k (a .n)) (a .x .now) (a .p .now) k (c .first-pair .ensures .1 k l))),
     )
 
-mul-sum : tie.Need-mul-sum Inv-loop μ-loop
-mul-sum c = omega arith
-
-element-copy-out-sum : tie.Need-element-copy-out-sum Inv-loop μ-loop
-element-copy-out-sum c = omega arith
-
-sub-sum : tie.Need-sub-sum Inv-loop μ-loop
-sub-sum c = omega arith
-
-mul-sum-2 : tie.Need-mul-sum-2 Inv-loop μ-loop
-mul-sum-2 c = omega arith
-
-element-copy-out-sum-2 : tie.Need-element-copy-out-sum-2 Inv-loop μ-loop
-element-copy-out-sum-2 c = omega arith
-
-mul-sum-3 : tie.Need-mul-sum-3 Inv-loop μ-loop
-mul-sum-3 c = rw (x-back c, p-back c) (product-fits c)
-
 add-sum : tie.Need-add-sum Inv-loop μ-loop
 add-sum c = rw (x-back c, p-back c, toZ-ofZ (product-fits c), c .before .before .before .loop .inv .1) (next-fits c)
-
-add-k : tie.Need-add-k Inv-loop μ-loop
-add-k c = omega arith
-
-loop-less : tie.Need-loop-less Inv-loop μ-loop
-loop-less c = omega arith
 
 loop-again : tie.Need-loop-again Inv-loop μ-loop
 loop-again c =
@@ -121,12 +86,12 @@ loop-again c =
 
 returns : tie.Need-returns Inv-loop μ-loop
 returns c =
-    let f = c .before .before .before in
-    let a = f .before .args in
-    let end = f .smaller .result + 1 in
+    let s = c .before .before .before in
+    let a = s .args in
+    let end = a .n + 1 in
     c .before .loop .inv .1
-    ∙ sum-ends end (c .before .loop .k) (terms (f .before)) (omega arith) (λ k l u. past f k (omega arith))
-    ∙ sym (sum-ends end (a .m) (terms (f .before)) (omega arith) (λ k l u. past f k (omega arith)))
+    ∙ sum-ends end (c .before .loop .k) (terms s) (omega arith) (λ k l u. past s k (omega arith))
+    ∙ sym (sum-ends end (a .m) (terms s) (omega arith) (λ k l u. past s k (omega arith)))
     ∙ sym (pairs-terms (a .m) (a .j) (λ k. leb k (a .n)) (a .x .now) (a .p .now))
 
 pub pair-sum-spec : {M : Type 1} → statement M
@@ -135,17 +100,16 @@ pair-sum-spec =
     (tie.spec
     Inv-loop
     μ-loop
-    smaller-requires
-    first-pair-requires
+    (λ c κs. (omega arith, omega arith, omega arith))
     loop-holds
-    mul-sum
-    element-copy-out-sum
-    sub-sum
-    mul-sum-2
-    element-copy-out-sum-2
-    mul-sum-3
+    (λ c. omega arith)
+    (λ c. omega arith)
+    (λ c. omega arith)
+    (λ c. omega arith)
+    (λ c. omega arith)
+    (λ c. rw (x-back c, p-back c) (product-fits c))
     add-sum
-    add-k
-    loop-less
+    (λ c. omega arith)
+    (λ c. omega arith)
     loop-again
     returns)

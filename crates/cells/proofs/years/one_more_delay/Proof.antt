@@ -20,21 +20,18 @@ use Rattle.cells.proofs.years.one_more_delay.Statement.{statement}
 use Rattle.cells.proofs.years.one_more_delay.Tie as tie
 
 abbrev Inv-loop : tie.InvT-loop
-Inv-loop b p m k sums₀ l₀ sums l = (l ≤ m) × (sums ≡ partly m k b p l)
+Inv-loop sums₀ b p m k share l₀ sums l = (l ≤ m) × (sums ≡ partly m k b p l)
 
 abbrev μ-loop : tie.MeasureT-loop
-μ-loop b p m k sums₀ l₀ sums l = m - l
+μ-loop sums₀ b p m k share l₀ sums l = m - l
 
--- what is stored at place k + l
-module _ (c : tie.After-sums3 Inv-loop μ-loop) where
+-- the product that is added
+module _ (c : tie.After-sums Inv-loop μ-loop) where
   abbrev e : tie.At-loop Inv-loop μ-loop
-  e = c .before .before .before .before
+  e = c .before .before
 
   abbrev s : tie.Start Inv-loop μ-loop
-  s = e .before
-
-  abbrev so-far : List ℤ
-  so-far = partly (s .args .m) (s .args .k) (s .args .b .now) (s .args .p .now) (e .loop .l)
+  s = e .before .before
 
   abbrev x : ℤ
   x = at (s .args .b .now) (s .args .k)
@@ -42,8 +39,11 @@ module _ (c : tie.After-sums3 Inv-loop μ-loop) where
   abbrev y : ℤ
   y = at (s .args .p .now) (e .loop .l)
 
-  abbrev z : ℤ
-  z = at so-far (s .args .k + e .loop .l)
+  x-back : toZ w64 (ofZ w64 x) ≡ x
+  x-back = toZ-ofZ (record { sfits = e .before .share .given })
+
+  y-back : toZ w64 (ofZ w64 y) ≡ y
+  y-back = toZ-ofZ (record { sfits = c .sums .given })
 
   product-fits : SFits w64 (x *ℤ y)
   product-fits =
@@ -55,80 +55,40 @@ module _ (c : tie.After-sums3 Inv-loop μ-loop) where
   place : s .args .k + e .loop .l < 39
   place = omega arith
 
-  sum-is : z +ℤ x *ℤ y ≡ Rattle.model.specs.Cells.pairs (s .args .m) (s .args .k + e .loop .l) (leb (s .args .k)) (s .args .b .now) (s .args .p .now)
-  sum-is = added (s .args .m) (s .args .k) (s .args .b .now) (s .args .p .now) (e .loop .l) (omega arith) place (omega arith)
+  abbrev z : ℤ
+  z = at (partly (s .args .m) (s .args .k) (s .args .b .now) (s .args .p .now) (e .loop .l)) (s .args .k + e .loop .l)
 
   sum-fits : SFits w64 (z +ℤ x *ℤ y)
   sum-fits =
-      rw sum-is
+      rw (added (s .args .m) (s .args .k) (s .args .b .now) (s .args .p .now) (e .loop .l) (omega arith) place (omega arith))
       (fits-abs (omega (arith, pairs-small (s .args .m) (s .args .k + e .loop .l) (leb (s .args .k)) (s .args .b .now) (s .args .p .now) (s .pre .1 .0) (s .pre .1 .1) (omega arith))))
 
-  x-back : toZ w64 (ofZ w64 x) ≡ x
-  x-back = toZ-ofZ (record { sfits = c .before .sums2 .given })
-
-  y-back : toZ w64 (ofZ w64 y) ≡ y
-  y-back = toZ-ofZ (record { sfits = c .sums3 .given })
-
-  z-back : toZ w64 (ofZ w64 (at (e .loop .sums) (s .args .k + e .loop .l))) ≡ z
-  z-back = toZ-ofZ (record { sfits = c .before .before .sums .given }) ∙ ap (λ (l : List ℤ). at l (s .args .k + e .loop .l)) (e .loop .inv .1)
+-- the sum that is stored at place k + l
+stored : (c : tie.After-sums2 Inv-loop μ-loop) → (let d = c .before in
+    toZ w64 (ofZ w64 (at (e d .loop .sums) (s d .args .k + e d .loop .l))) +ℤ toZ w64 (ofZ w64 (toZ w64 (ofZ w64 (x d)) *ℤ toZ w64 (ofZ w64 (y d)))) ≡ z d +ℤ x d *ℤ y d)
+stored c =
+    let d = c .before in
+    rw (x-back d, y-back d, toZ-ofZ (product-fits d))
+    (ap (λ (a : ℤ). a +ℤ x d *ℤ y d) (toZ-ofZ (record { sfits = c .sums2 .given }) ∙ ap (λ (l : List ℤ). at l (s d .args .k + e d .loop .l)) (e d .loop .inv .1)))
 
 loop-holds : tie.Need-loop-holds Inv-loop μ-loop
-loop-holds c = (omega arith, c .pre .0 .2 ∙ start (c .args .m) (c .args .k) (c .args .b .now) (c .args .p .now))
-
-add-sums : tie.Need-add-sums Inv-loop μ-loop
-add-sums c = omega arith
-
-mul-sums : tie.Need-mul-sums Inv-loop μ-loop
-mul-sums c = omega arith
-
-array-copy-out-sums : tie.Need-array-copy-out-sums Inv-loop μ-loop
-array-copy-out-sums c = omega arith
-
-mul-sums-2 : tie.Need-mul-sums-2 Inv-loop μ-loop
-mul-sums-2 c = omega arith
-
-element-copy-out-sums : tie.Need-element-copy-out-sums Inv-loop μ-loop
-element-copy-out-sums c = omega arith
-
-mul-sums-3 : tie.Need-mul-sums-3 Inv-loop μ-loop
-mul-sums-3 c = omega arith
-
-element-copy-out-sums-2 : tie.Need-element-copy-out-sums-2 Inv-loop μ-loop
-element-copy-out-sums-2 c = omega arith
-
-mul-sums-4 : tie.Need-mul-sums-4 Inv-loop μ-loop
-mul-sums-4 c = rw (x-back c, y-back c) (product-fits c)
-
-add-sums-2 : tie.Need-add-sums-2 Inv-loop μ-loop
-add-sums-2 c = rw (x-back c, y-back c, toZ-ofZ (product-fits c), z-back c) (sum-fits c)
-
-add-sums-3 : tie.Need-add-sums-3 Inv-loop μ-loop
-add-sums-3 c = omega arith
-
-mul-sums-5 : tie.Need-mul-sums-5 Inv-loop μ-loop
-mul-sums-5 c = omega arith
-
-array-set-from-sums : tie.Need-array-set-from-sums Inv-loop μ-loop
-array-set-from-sums c = omega arith
-
-add-l : tie.Need-add-l Inv-loop μ-loop
-add-l c = omega arith
-
-loop-less : tie.Need-loop-less Inv-loop μ-loop
-loop-less c = omega arith
+loop-holds c =
+    let s = c .before in
+    (omega arith, s .pre .0 .2 ∙ start (s .args .m) (s .args .k) (s .args .b .now) (s .args .p .now))
 
 loop-again : tie.Need-loop-again Inv-loop μ-loop
 loop-again c =
-    let a = s c .args in (
+    let d = c .before in
+    let a = s d .args in (
       omega arith,
-      rw (x-back c, y-back c, toZ-ofZ (product-fits c), z-back c, toZ-ofZ (sum-fits c))
-          (ap (λ (q : List ℤ). set q (a .k + e c .loop .l) (z c +ℤ x c *ℤ y c)) (e c .loop .inv .1)
-          ∙ next (a .m) (a .k) (a .b .now) (a .p .now) (e c .loop .l) (omega arith) (place c) (omega arith)),
+      rw (stored c, toZ-ofZ (sum-fits d))
+          (ap (λ (q : List ℤ). set q (a .k + e d .loop .l) (z d +ℤ x d *ℤ y d)) (e d .loop .inv .1)
+          ∙ next (a .m) (a .k) (a .b .now) (a .p .now) (e d .loop .l) (omega arith) (place d) (omega arith)),
     )
 
 returns : tie.Need-returns Inv-loop μ-loop
 returns c =
-    let a = c .before .before .args in
+    let a = c .before .before .before .args in
     let d : c .before .loop .l ≡ a .m = omega arith in
     c .before .loop .inv .1 ∙ ap (partly (a .m) (a .k) (a .b .now) (a .p .now)) d ∙ all (a .m) (a .k) (a .b .now) (a .p .now)
 
@@ -138,20 +98,18 @@ one-more-delay-spec =
     (tie.spec
     Inv-loop
     μ-loop
+    (λ c. omega arith)
+    (λ c. omega arith)
     loop-holds
-    add-sums
-    mul-sums
-    array-copy-out-sums
-    mul-sums-2
-    element-copy-out-sums
-    mul-sums-3
-    element-copy-out-sums-2
-    mul-sums-4
-    add-sums-2
-    add-sums-3
-    mul-sums-5
-    array-set-from-sums
-    add-l
-    loop-less
+    (λ c. omega arith)
+    (λ c. omega arith)
+    (λ c. rw (x-back c, y-back c) (product-fits c))
+    (λ c. omega arith)
+    (λ c. omega arith)
+    (λ c. omega arith)
+    (λ c. rw (stored c) (sum-fits (c .before)))
+    (λ c. omega arith)
+    (λ c. omega arith)
+    (λ c. omega arith)
     loop-again
     returns)

@@ -41,12 +41,6 @@ module _ (c : tie.After-v) where
 mul-div-capped-requires : tie.Need-mul-div-capped-requires
 mul-div-capped-requires c κs = rw (toZ-ofZ (c .fits .g), toZ-ofZ (c .fits .a), toZ-ofZ (c .fits .b)) (omega arith, omega arith, c .pre .2, omega arith, omega arith)
 
-enum-known-v : tie.Need-enum-known-v
-enum-known-v c = search needs
-
-enum-told : tie.Need-enum-told
-enum-told c = search needs
-
 returns : tie.Need-returns
 unfolding shareIn
 returns c =
@@ -71,4 +65,4 @@ returns-3 c =
 
 pub next-share-spec : {M : Type 1} → statement M
 next-share-spec =
-    tie.close (tie.spec mul-div-capped-requires enum-known-v enum-told returns returns-2 returns-3)
+    tie.close (tie.spec mul-div-capped-requires (λ c. search needs) (λ c. search needs) returns returns-2 returns-3)

@@ -16,13 +16,13 @@ use Rattle.chain_ladder.proofs.ladder.ultimates.Statement.{statement}
 use Rattle.chain_ladder.proofs.ladder.ultimates.Tie as tie
 
 abbrev Inv-loop : tie.InvT-loop
-Inv-loop m latest g out₀ k₀ out k = (k ≤ m) × (out ≡ listed 20 k (grown m latest g) (pos 0))
+Inv-loop latest g m out₀ k₀ out k = (k ≤ m) × (out ≡ listed 20 k (grown m latest g) (pos 0))
 
 abbrev μ-loop : tie.MeasureT-loop
-μ-loop m latest g out₀ k₀ out k = m - k
+μ-loop latest g m out₀ k₀ out k = m - k
 
 -- the two numbers, as they are read
-module _ (c : tie.After-y Inv-loop μ-loop) where
+module _ (c : tie.After-mul-div-arg2 Inv-loop μ-loop) where
   abbrev start : tie.Start Inv-loop μ-loop
   start = c .before .before .before .before
 
@@ -30,57 +30,24 @@ module _ (c : tie.After-y Inv-loop μ-loop) where
   k = c .before .before .before .loop .k
 
   abbrev x : ℤ
-  x = at (start .args .t1) k
+  x = at (start .args .latest .now) k
 
   abbrev y : ℤ
-  y = at (start .args .t2) (start .args .m - 1 - k)
+  y = at (start .args .g .now) (start .args .m - 1 - k)
 
   x-read : toZ w64 (ofZ w64 x) ≡ x
-  x-read = toZ-ofZ (record { sfits = c .before .x .given })
+  x-read = toZ-ofZ (record { sfits = c .before .mul-div-arg .given })
 
   y-read : toZ w64 (ofZ w64 y) ≡ y
-  y-read = toZ-ofZ (record { sfits = c .y .given })
+  y-read = toZ-ofZ (record { sfits = c .mul-div-arg2 .given })
 
   y-bounds : (pos 0 ⋖ y) × (10 ^ 6 ≤ natAbs y) × (natAbs y ≤ 4 * 10 ^ 9)
   y-bounds = bounds-abs y (start .pre .bounds .shares (start .args .m - 1 - k) (omega arith))
-
-loop-holds : tie.Need-loop-holds Inv-loop μ-loop
-loop-holds c = (omega arith, listed-none 20 _ (pos 0))
-
-mul-x : tie.Need-mul-x Inv-loop μ-loop
-mul-x c = omega (arith, c .before .before .pre .bounds .few)
-
-array-copy-out-x : tie.Need-array-copy-out-x Inv-loop μ-loop
-array-copy-out-x c = omega (arith, c .before .before .pre .bounds .few)
-
-sub-y : tie.Need-sub-y Inv-loop μ-loop
-sub-y c = omega arith
-
-sub-y-2 : tie.Need-sub-y-2 Inv-loop μ-loop
-sub-y-2 c = omega arith
-
-mul-y : tie.Need-mul-y Inv-loop μ-loop
-mul-y c = omega (arith, c .before .before .before .pre .bounds .few)
-
-array-copy-out-y : tie.Need-array-copy-out-y Inv-loop μ-loop
-array-copy-out-y c = omega (arith, c .before .before .before .pre .bounds .few)
 
 mul-div-requires : tie.Need-mul-div-requires Inv-loop μ-loop
 mul-div-requires c κs =
     let small = start c .pre .sums (k c) (c .before .before .loop-test .taken) in
     rw (x-read c, y-read c) (omega arith, omega arith, y-bounds c .0, omega (arith, y-bounds c .2), omega (arith, y-bounds c .1))
-
-mul-out : tie.Need-mul-out Inv-loop μ-loop
-mul-out c = omega (arith, start (c .before) .pre .bounds .few)
-
-array-set-from-out : tie.Need-array-set-from-out Inv-loop μ-loop
-array-set-from-out c = omega (arith, start (c .before) .pre .bounds .few)
-
-add-k : tie.Need-add-k Inv-loop μ-loop
-add-k c = omega (arith, start (c .before) .pre .bounds .few)
-
-loop-less : tie.Need-loop-less Inv-loop μ-loop
-loop-less c = omega arith
 
 loop-again : tie.Need-loop-again Inv-loop μ-loop
 unfolding grown S
@@ -100,17 +67,17 @@ ultimates-spec =
     (tie.spec
     Inv-loop
     μ-loop
-    loop-holds
-    mul-x
-    array-copy-out-x
-    sub-y
-    sub-y-2
-    mul-y
-    array-copy-out-y
+    (λ c. (omega arith, listed-none 20 _ (pos 0)))
+    (λ c. omega (arith, c .before .before .pre .bounds .few))
+    (λ c. omega (arith, c .before .before .pre .bounds .few))
+    (λ c. omega arith)
+    (λ c. omega arith)
+    (λ c. omega (arith, c .before .before .before .pre .bounds .few))
+    (λ c. omega (arith, c .before .before .before .pre .bounds .few))
     mul-div-requires
-    mul-out
-    array-set-from-out
-    add-k
-    loop-less
+    (λ c. omega (arith, start (c .before) .pre .bounds .few))
+    (λ c. omega (arith, start (c .before) .pre .bounds .few))
+    (λ c. omega (arith, start (c .before) .pre .bounds .few))
+    (λ c. omega arith)
     loop-again
     returns)

@@ -1,88 +1,55 @@
 -- `forecast::set::forecast_prepared` meets its contract: the row bases, and then the cells. Assumes
 -- nothing.
-use mathlib.Core.Path.{_≡_, sym, _∙_, ap}
-use mathlib.Core.List.{List}
+use mathlib.Core.Path.{refl, sym, _∙_}
+use mathlib.Core.Bool.{true}
 use borrow.Author.Needs.{needs}
 use denote.Ref.{now}
-use lib.IntN.{ℤ}
-use Rattle.model.specs.Calls.{acceptedForecast, refusedForecast}
-use Rattle.model.specs.CallsLaws.{if-accepted, if-refused}
-use Rattle.model.specs.declared.TriangleSet.{TriangleSet}
-use Rattle.row_bases.specs.declared.MethodBases.{MethodBases}
-use Rattle.forecast.specs.SetForecast.{methodRefusal, PreparedOf, SomePrepared}
-use Rattle.forecast.specs.SetForecastLaws.{bases-sized, number-is, passes, parts, years-ready, years-written}
+use Rattle.model.specs.CallsLaws.{if-refused, if-accepted}
+use Rattle.chain_ladder.specs.DevelopedLaws.{counts-ready}
+use Rattle.chain_ladder.specs.LadderLaws.{ladder-ready}
+use Rattle.forecast.specs.SetForecast.{methodRefusal}
+use Rattle.forecast.specs.SetForecastLaws.{years-ready, years-written}
 use Rattle.forecast.proofs.set.forecast_prepared.Statement.{statement}
 use Rattle.forecast.proofs.set.forecast_prepared.Tie as tie
 
-module _ (c : tie.After-method-bases) where
-  abbrev start : tie.Start
-  start = c .before .before
-
-  abbrev counts : List ℤ
-  counts = now (start .args .counts)
-
-  abbrev incurred : List ℤ
-  incurred = now (start .args .incurred)
-
-  abbrev y : MethodBases
-  y = c .method-bases .result
-
-  abbrev some : SomePrepared (start .args .m) (start .args .method) (start .args .ready) counts incurred
-  some = start .pre .0
-
-method-bases-requires : tie.Need-method-bases-requires
-method-bases-requires c κs =
-    let s = c .before in
-    bases-sized (s .args .m) (s .pre .0 .set) (s .args .method) (s .args .ready) (now (s .args .counts)) (now (s .args .incurred)) (s .pre .0 .of)
-
-refused-requires : tie.Need-refused-requires
-refused-requires c κs = search needs
+abbrev start : tie.After-method-bases → tie.Start
+start c = c .before .before .before
 
 returns : tie.Need-returns
-returns c =
-    let b = c .before .before .before in
-    let a = start b .args in
-    let number : (s : TriangleSet) → PreparedOf (a .m) s (a .method) (a .ready) (counts b) (incurred b) → y b .refusal ≡ methodRefusal (a .m) s (a .method) =
-    λ s of. number-is (a .m) s (a .method) (a .ready) (counts b) (incurred b) of (y b) (b .method-bases .ensures) in
-    record {
-      answer = λ s of. c .refused .ensures ∙ ap refusedForecast (number s of) ∙ sym (if-refused _ _ _ (λ z. c .before .if1 .taken (number s of ∙ z)));
-      output = λ s of. sym (if-refused _ _ _ (λ z. c .before .if1 .taken (number s of ∙ z)));
-    }
+unfolding methodRefusal
+returns c has =
+    let e = c .before .method-bases .ensures has in
+    record { refusal = e .refusal; leftovers-are = e .lefts; output = sym (if-refused _ _ _ (c .if1 .taken)) }
 
 cell-forecast-requires : tie.Need-cell-forecast-requires
 cell-forecast-requires c κs =
-    let e = c .before .before .before .before .before .before in
-    let b = e .before .before in
-    let a = start b .args in
-    (years-ready (a .m) (some b .set) (a .method) (a .ready) (counts b) (incurred b) (some b .of) (y b) (b .method-bases .ensures) (e .if1 .left), start b .pre .1)
-
-same-length : tie.Need-same-length
-same-length c = search needs
+    let r = c .before .before .before in
+    let e = r .before in
+    let b = e .before in
+    (years-ready (start b .pre .0) true (b .method-bases .ensures true) (e .if1 .left) (r .shares-of .ensures), start b .pre .1)
 
 returns-2 : tie.Need-returns-2
-returns-2 c =
-    let w = c .before .before in
-    let e = w .before .before .before .before .before .before .before in
-    let b = e .before .before in
-    let a = start b .args in
+unfolding methodRefusal
+returns-2 c has =
+    let w = c .before in
+    let r = w .before .before .before .before in
+    let e = r .before in
+    let b = e .before in
     let z = e .if1 .left in
+    let made = b .method-bases .ensures has in
     record {
-      answer = λ s of.
-          ap (λ (k : MethodBases). acceptedForecast (k .leftovers)) (parts (a .m) s (a .method) (a .ready) (counts b) (incurred b) of (y b) (b .method-bases .ensures) z)
-          ∙ sym (if-accepted _ _ _ (passes (a .m) s (a .method) (a .ready) (counts b) (incurred b) of (y b) (b .method-bases .ensures) z));
-      output = λ s of.
-          w .cell-forecast .ensures
-          ∙ years-written (a .m) s (a .method) (a .ready) (counts b) (incurred b) of (y b) (b .method-bases .ensures) z (a .basis) (now (a .out))
-          ∙ sym (if-accepted _ _ _ (passes (a .m) s (a .method) (a .ready) (counts b) (incurred b) of (y b) (b .method-bases .ensures) z));
+      refusal = sym z ∙ made .refusal;
+      leftovers-are = made .lefts ∙ if-accepted _ _ _ z;
+      output = w .cell-forecast .ensures ∙ years-written (start b .pre .0) has made z (r .shares-of .ensures) (start b .args .basis) (now (start b .args .out));
     }
 
 pub forecast-prepared-spec : {M : Type 1} → statement M
 forecast-prepared-spec =
     tie.close
     (tie.spec
-    method-bases-requires
-    refused-requires
+    (λ c κs. let g = c .before .before .pre .0 in (g .asked, (g .paid, refl)))
     returns
+    (λ c κs. let g = start (c .before) .pre .0 in ladder-ready (g .counts) (counts-ready (g .asked .shared)) .bounds)
     cell-forecast-requires
-    same-length
+    (λ c. search needs)
     returns-2)

@@ -13,12 +13,6 @@ use Rattle.row_bases.proofs.bases.leftover.Tie as tie
 incurred-fits : (s : tie.Start) → SFits w64 (s .args .w -ℤ s .args .c)
 incurred-fits s = fits-abs (omega (arith, incurred-small (s .pre)))
 
-returns : tie.Need-returns
-returns c = let a = c .before .args in sym (left-none (a .method) (a .u) (a .w) (a .c) (c .if1 .taken))
-
-sub-result : tie.Need-sub-result
-sub-result c = let s = c .before .before in rw (toZ-ofZ (s .fits .w), toZ-ofZ (s .fits .c)) (incurred-fits s)
-
 returns-2 : tie.Need-returns-2
 returns-2 c =
     let s = c .before .before in
@@ -31,4 +25,4 @@ returns-3 c =
     sym (left-open (s .args .method) (s .args .u) (s .args .w) (s .args .c) (omega arith) (reserve-pos (s .pre) (λ e. c .if2 .left (ap (ofZ w64) e))))
 
 pub leftover-spec : {M : Type 1} → statement M
-leftover-spec = tie.close (tie.spec returns sub-result returns-2 returns-3)
+leftover-spec = tie.close (tie.spec (λ c. let a = c .before .args in sym (left-none (a .method) (a .u) (a .w) (a .c) (c .if1 .taken))) (λ c. let s = c .before .before in rw (toZ-ofZ (s .fits .w), toZ-ofZ (s .fits .c)) (incurred-fits s)) returns-2 returns-3)

@@ -1,23 +1,21 @@
 -- `row_bases::bases::row_bases` meets its contract. The loop's invariant: the bases of the first k
 -- years are in range and in their places. Assumes nothing.
 use borrow.Author.Needs.{needs}
-use mathlib.Core.Path.{_≡_, sym, _∙_, ap₂}
-use mathlib.Core.List.{List}
-use mathlib.Core.Bool.{true}
+use mathlib.Core.Path.{_≡_, sym, _∙_}
+use mathlib.Core.Bool.{true, false≢true}
 use Prim.Native.Nat.{ℕ, _-_, _*_, _^_, _≤_}
 use native.Mathlib.Omega.{arith}
 use borrow.Author.Tests.{le-leb, lt-leb}
 use lib.Dec.{leb}
 use lib.IntN.{ℤ, pos, natAbs}
-use lib.ListN.{set}
 use mir.Syntax.{w64}
 use mir.Val.{SFits, toZ, ofZ}
 use mir.Facts.{toZ-ofZ}
 use Rattle.model.specs.Lists.{at, listed, every}
-use Rattle.model.specs.ListsLaws.{listed-none, listed-more, every-none, every-more, every-no}
+use Rattle.model.specs.ListsLaws.{listed-none, listed-next, every-none, every-more, every-no}
 use Rattle.arithmetic.specs.Capped.{capped, within-is, over-is}
 use Rattle.arithmetic.specs.Words.{fits-abs}
-use Rattle.row_bases.specs.Bases.{Sizes, baseAt, basesOf}
+use Rattle.row_bases.specs.Bases.{Sizes, baseAt}
 use Rattle.row_bases.proofs.bases.row_bases.Statement.{statement}
 use Rattle.row_bases.proofs.bases.row_bases.Tie as tie
 
@@ -29,34 +27,7 @@ abbrev μ-loop : tie.MeasureT-loop
 μ-loop m method u c w v₀ k₀ v k = m - k
 
 abbrev base : tie.Start Inv-loop μ-loop → ℕ → ℤ
-base c = baseAt (c .args .m) (c .args .method) (c .args .t3) (c .args .t4) (c .args .t5)
-
-loop-holds : tie.Need-loop-holds Inv-loop μ-loop
-loop-holds c = (omega arith, every-none (λ i. leb (natAbs (base c i)) (2 * 10 ^ 14)), listed-none 20 (base c) (pos 0))
-
-array-copy-out-row-base : tie.Need-array-copy-out-row-base Inv-loop μ-loop
-array-copy-out-row-base c = omega arith
-
-array-copy-out-row-base-2 : tie.Need-array-copy-out-row-base-2 Inv-loop μ-loop
-array-copy-out-row-base-2 c = omega arith
-
-mul-row-base : tie.Need-mul-row-base Inv-loop μ-loop
-mul-row-base c = omega arith
-
-array-copy-out-row-base-3 : tie.Need-array-copy-out-row-base-3 Inv-loop μ-loop
-array-copy-out-row-base-3 c = omega arith
-
-mul-row-base-2 : tie.Need-mul-row-base-2 Inv-loop μ-loop
-mul-row-base-2 c = omega arith
-
-array-copy-out-row-base-4 : tie.Need-array-copy-out-row-base-4 Inv-loop μ-loop
-array-copy-out-row-base-4 c = omega arith
-
-mul-row-base-3 : tie.Need-mul-row-base-3 Inv-loop μ-loop
-mul-row-base-3 c = omega arith
-
-array-copy-out-row-base-5 : tie.Need-array-copy-out-row-base-5 Inv-loop μ-loop
-array-copy-out-row-base-5 c = omega arith
+base c = baseAt (c .args .m) (c .args .method) (c .args .u .now) (c .args .c .now) (c .args .w .now)
 
 -- a year's numbers as they are read, and the answer for it
 module _ (c : tie.After-row-base-arg5 Inv-loop μ-loop) where
@@ -66,8 +37,8 @@ module _ (c : tie.After-row-base-arg5 Inv-loop μ-loop) where
   abbrev a : tie.Start Inv-loop μ-loop
   a = l .before
 
-  sizes : Sizes (a .args .method) (toZ w64 (ofZ w64 (at (a .args .t3) 0))) (toZ w64 (ofZ w64 (at (a .args .t5) 0)))
-      (toZ w64 (ofZ w64 (at (a .args .t3) (l .loop .k)))) (toZ w64 (ofZ w64 (at (a .args .t5) (l .loop .k)))) (toZ w64 (ofZ w64 (at (a .args .t4) (l .loop .k))))
+  sizes : Sizes (a .args .method) (toZ w64 (ofZ w64 (at (a .args .u .now) 0))) (toZ w64 (ofZ w64 (at (a .args .w .now) 0)))
+      (toZ w64 (ofZ w64 (at (a .args .u .now) (l .loop .k)))) (toZ w64 (ofZ w64 (at (a .args .w .now) (l .loop .k)))) (toZ w64 (ofZ w64 (at (a .args .c .now) (l .loop .k))))
   sizes =
       rw (
         toZ-ofZ (record { sfits = c .before .before .before .before .row-base-arg .given }),
@@ -90,35 +61,16 @@ answer-is c =
     )
     at (c .row-base .ensures)
 
-row-base-requires : tie.Need-row-base-requires Inv-loop μ-loop
-row-base-requires c κs = sizes c
-
-enum-known-base : tie.Need-enum-known-base Inv-loop μ-loop
-enum-known-base c = search needs
-
-enum-told : tie.Need-enum-told Inv-loop μ-loop
-enum-told c = search needs
-
 returns : tie.Need-returns Inv-loop μ-loop
-unfolding basesOf
 returns c =
     let n = c .before .before in
     let d = n .before in
     let k = l d .loop .k in
     let over = over-is (2 * 10 ^ 14) (base (a d) k) (sym (answer-is n) ∙ c .enum-told .given .1) in
-    rw (every-no (λ i. leb (natAbs (base (a d) i)) (2 * 10 ^ 14)) (a d .args .m) k (omega arith) (lt-leb (natAbs (base (a d) k)) (2 * 10 ^ 14) over))
-
-mul-v : tie.Need-mul-v Inv-loop μ-loop
-mul-v c = omega arith
-
-array-set-from-v : tie.Need-array-set-from-v Inv-loop μ-loop
-array-set-from-v c = omega arith
-
-add-k : tie.Need-add-k Inv-loop μ-loop
-add-k c = omega arith
-
-loop-less : tie.Need-loop-less Inv-loop μ-loop
-loop-less c = omega arith
+    record {
+      answer = sym (every-no (λ i. leb (natAbs (base (a d) i)) (2 * 10 ^ 14)) (a d .args .m) k (omega arith) (lt-leb (natAbs (base (a d) k)) (2 * 10 ^ 14) over));
+      listed-all = λ e. absurd (false≢true e);
+    }
 
 loop-again : tie.Need-loop-again Inv-loop μ-loop
 loop-again c =
@@ -129,16 +81,14 @@ loop-again c =
     let fits : SFits w64 (base (a d) k) = fits-abs (omega (arith, told .1)) in (
       omega arith,
       every-more (λ i. leb (natAbs (base (a d) i)) (2 * 10 ^ 14)) k (l d .loop .inv .1) (le-leb (natAbs (base (a d) k)) (2 * 10 ^ 14) (told .1)),
-      ap₂ (λ (v : List ℤ) (z : ℤ). set v k z) (l d .loop .inv .2) (rw (← told .0) (toZ-ofZ fits)) ∙ listed-more 20 k (base (a d)) (pos 0) (omega arith),
+      listed-next 20 k (base (a d)) (pos 0) (omega arith) (l d .loop .inv .2) (rw (← told .0) (toZ-ofZ fits)),
     )
 
 returns-2 : tie.Need-returns-2 Inv-loop μ-loop
-unfolding basesOf
 returns-2 c =
     let s = c .before .before in
     let e : c .before .loop .k ≡ s .args .m = omega arith in
-    let ok = rw e at (c .before .loop .inv .1) in
-    rw (ok, rw e at (c .before .loop .inv .2))
+    record { answer = sym (rw e at (c .before .loop .inv .1)); listed-all = λ _. rw e at (c .before .loop .inv .2) }
 
 pub row-bases-spec : {M : Type 1} → statement M
 row-bases-spec =
@@ -146,22 +96,22 @@ row-bases-spec =
     (tie.spec
     Inv-loop
     μ-loop
-    loop-holds
-    array-copy-out-row-base
-    array-copy-out-row-base-2
-    mul-row-base
-    array-copy-out-row-base-3
-    mul-row-base-2
-    array-copy-out-row-base-4
-    mul-row-base-3
-    array-copy-out-row-base-5
-    row-base-requires
-    enum-known-base
-    enum-told
+    (λ c. (omega arith, every-none _, c .pre .3 ∙ listed-none 20 _ (pos 0)))
+    (λ c. omega arith)
+    (λ c. omega arith)
+    (λ c. omega arith)
+    (λ c. omega arith)
+    (λ c. omega arith)
+    (λ c. omega arith)
+    (λ c. omega arith)
+    (λ c. omega arith)
+    (λ c κs. sizes c)
+    (λ c. search needs)
+    (λ c. search needs)
     returns
-    mul-v
-    array-set-from-v
-    add-k
-    loop-less
+    (λ c. omega arith)
+    (λ c. omega arith)
+    (λ c. omega arith)
+    (λ c. omega arith)
     loop-again
     returns-2)

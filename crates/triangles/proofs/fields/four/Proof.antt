@@ -6,23 +6,5 @@ use Rattle.triangles.proofs.Bytes.{least-four}
 use Rattle.triangles.proofs.fields.four.Statement.{statement}
 use Rattle.triangles.proofs.fields.four.Tie as tie
 
-two-requires : tie.Need-two-requires
-two-requires c κs = search needs
-
-add-two : tie.Need-add-two
-add-two c = search needs
-
-two-requires-2 : tie.Need-two-requires-2
-two-requires-2 c κs = search needs
-
-mul-result : tie.Need-mul-result
-mul-result c = search needs
-
-add-result : tie.Need-add-result
-add-result c = search needs
-
-returns : tie.Need-returns
-returns c = let s = c .before .before .before .args in omega (arith, least-four (now (s .file)) (s .at))
-
 pub four-spec : {M : Type 1} → statement M
-four-spec = tie.close (tie.spec two-requires add-two two-requires-2 mul-result add-result returns)
+four-spec = tie.close (tie.spec (λ c κs. search needs) (λ c. search needs) (λ c κs. search needs) (λ c. search needs) (λ c. search needs) (λ c. let s = c .before .before .before .args in omega (arith, least-four (now (s .file)) (s .at))))

@@ -1,22 +1,19 @@
--- `in_range` meets its contract, by the laws of `Ranges`. Assumes nothing.
+-- `in_range` meets its contract: the bounds of the kind, as the code holds them. Assumes nothing.
 use borrow.Author.Needs.{needs}
-use Rattle.triangles.proofs.Ranges.{range-low, range-high}
+use mir.Syntax.{w64}
+use mir.Val.{SFits}
+use mir.Facts.{toZ-ofZ}
+use Rattle.model.specs.Records.{inRange}
 use Rattle.triangles.proofs.questions.in_range.Statement.{statement}
 use Rattle.triangles.proofs.questions.in_range.Tie as tie
 
-lowest-requires : tie.Need-lowest-requires
-lowest-requires c κs = search needs
-
-highest-requires : tie.Need-highest-requires
-highest-requires c κs = search needs
-
 returns : tie.Need-returns
+unfolding inRange
 returns c =
-    let b = c .before .before in
-    range-high _ _ _ (b .before .fits .v) (search needs) (b .lowest .ensures) _ (search needs) (c .highest .ensures) (c .before .if1 .taken)
-
-returns-2 : tie.Need-returns-2
-returns-2 c = range-low _ _ _ (c .before .before .fits .v) (search needs) (c .before .lowest .ensures) (c .if1 .left)
+    let b = c .before in
+    let lo : SFits w64 (b .lowest .result) = search needs in
+    let hi : SFits w64 (c .highest .result) = search needs in
+    rw (toZ-ofZ (b .before .fits .v), toZ-ofZ lo, toZ-ofZ hi, b .lowest .ensures, c .highest .ensures)
 
 pub in-range-spec : {M : Type 1} → statement M
-in-range-spec = tie.close (tie.spec lowest-requires highest-requires returns returns-2)
+in-range-spec = tie.close (tie.spec (λ c κs. search needs) (λ c κs. search needs) returns)

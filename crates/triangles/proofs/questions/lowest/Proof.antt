@@ -1,32 +1,7 @@
--- `lowest` meets its contract: its table, kind by kind. Assumes nothing.
-use borrow.Author.Needs.{needs}
-use native.Mathlib.Omega.{arith}
-use mathlib.Core.Path.{_≡_, refl}
-use mathlib.Core.Bool.{cond}
-use mathlib.Core.List.{[], _∷_}
-use Prim.Native.Nat.{ℕ, zero, suc, _-_, _^_, _<_}
-use lib.Dec.{ltb}
-use lib.IntN.{pos, negsuc}
-use lib.ListN.{getD}
-use mir.Syntax.{w64}
-use mir.Val.{toZ, ofZ}
+-- `lowest` meets its contract. Assumes nothing.
+use borrow.Author.Tests.{lt-ltb, le-ltb}
 use Rattle.triangles.proofs.questions.lowest.Statement.{statement}
 use Rattle.triangles.proofs.questions.lowest.Tie as tie
 
-table : (kind : ℕ) → kind < 3 → toZ w64 (ofZ w64 (getD (pos 0 ∷ pos 0 ∷ negsuc (10 ^ 10 - 1) ∷ []) kind (pos 0))) ≡ cond (ltb kind 2) (pos 0) (negsuc (10 ^ 10 - 1))
-table zero h = refl
-table (suc zero) h = refl
-table (suc (suc zero)) h = refl
-table (suc (suc (suc k))) h = absurd (omega arith)
-
-mul-result : tie.Need-mul-result
-mul-result c = search needs
-
-array-copy-out-result : tie.Need-array-copy-out-result
-array-copy-out-result c = search needs
-
-returns : tie.Need-returns
-returns c = table (c .before .args .kind) (c .before .pre)
-
 pub lowest-spec : {M : Type 1} → statement M
-lowest-spec = tie.close (tie.spec mul-result array-copy-out-result returns)
+lowest-spec = tie.close (tie.spec (λ c. simp (lt-ltb _ _ (c .if1 .taken))) (λ c. simp (le-ltb _ _ (c .if1 .left))))

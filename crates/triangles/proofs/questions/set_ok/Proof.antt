@@ -5,15 +5,9 @@ use Rattle.model.specs.Tests.{refused, passed}
 use Rattle.triangles.proofs.questions.set_ok.Statement.{statement}
 use Rattle.triangles.proofs.questions.set_ok.Tie as tie
 
-cells-ok-requires : tie.Need-cells-ok-requires
-cells-ok-requires c κs = search needs
-
 returns : tie.Need-returns
 unfolding q5Writer
 returns c = simp (refused (c .if1 .taken) (c .before .cells-ok .ensures))
-
-cells-ok-requires-2 : tie.Need-cells-ok-requires-2
-cells-ok-requires-2 c κs = search needs
 
 returns-2 : tie.Need-returns-2
 unfolding q5Writer
@@ -21,15 +15,12 @@ returns-2 c =
     let d = c .before .before in
     simp (passed (d .if1 .left) (d .before .cells-ok .ensures), refused (c .if2 .taken) (c .before .cells-ok2 .ensures))
 
-cells-ok-requires-3 : tie.Need-cells-ok-requires-3
-cells-ok-requires-3 c κs = search needs
-
 returns-3 : tie.Need-returns-3
 unfolding q5Writer
 returns-3 c =
     let e = c .before .before in
     let d = e .before .before in
-    simp (
+    rw (
       passed (d .if1 .left) (d .before .cells-ok .ensures),
       passed (e .if2 .left) (e .before .cells-ok2 .ensures),
       c .before .if3 .taken,
@@ -47,10 +38,10 @@ pub set-ok-spec : {M : Type 1} → statement M
 set-ok-spec =
     tie.close
     (tie.spec
-    cells-ok-requires
+    (λ c κs. search needs)
     returns
-    cells-ok-requires-2
+    (λ c κs. search needs)
     returns-2
-    cells-ok-requires-3
+    (λ c κs. search needs)
     returns-3
     returns-4)

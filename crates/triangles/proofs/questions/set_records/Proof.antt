@@ -17,15 +17,6 @@ unfolding kinds
 records-of m true h = let e = cells-of m h in omega arith
 records-of m false h = let e = cells-of m h in omega arith
 
-kinds-requires : tie.Need-kinds-requires
-kinds-requires c κs = search needs
-
-add-result : tie.Need-add-result
-add-result c = search needs
-
-mul-result : tie.Need-mul-result
-mul-result c = omega (arith, cells-most _ (c .before .pre))
-
 mul-result-2 : tie.Need-mul-result-2
 mul-result-2 c =
     let m = c .before .args .m in
@@ -33,8 +24,5 @@ mul-result-2 c =
     let h : m * (m + 1) / 2 ≤ 210 = omega (arith, cells-most _ (c .before .pre)) in
     omega (arith, mul-le-mul l h)
 
-returns : tie.Need-returns
-returns c = rw (c .kinds .ensures) (records-of _ _ (c .before .pre))
-
 pub set-records-spec : {M : Type 1} → statement M
-set-records-spec = tie.close (tie.spec kinds-requires add-result mul-result mul-result-2 returns)
+set-records-spec = tie.close (tie.spec (λ c κs. search needs) (λ c. search needs) (λ c. omega (arith, cells-most _ (c .before .pre))) mul-result-2 (λ c. rw (c .kinds .ensures) (records-of _ _ (c .before .pre))))

@@ -25,24 +25,6 @@ whole : (d : List ℕ) (a : ℕ) (s : List ℕ) (k : ℕ) → k ≡ 16 → lengt
 unfolding overlay
 whole d a s k e l = rw (e, l, take-all 16 s (omega arith))
 
-loop-holds : tie.Need-loop-holds Inv-loop μ-loop
-loop-holds c = (search needs, paste-zero (now (c .args .out)) (c .args .a) (c .args .t3), refl)
-
-array-read-out : tie.Need-array-read-out Inv-loop μ-loop
-array-read-out c = omega arith
-
-add-out : tie.Need-add-out Inv-loop μ-loop
-add-out c = omega arith
-
-slice-write-out : tie.Need-slice-write-out Inv-loop μ-loop
-slice-write-out c = omega arith
-
-add-k : tie.Need-add-k Inv-loop μ-loop
-add-k c = omega arith
-
-loop-less : tie.Need-loop-less Inv-loop μ-loop
-loop-less c = omega arith
-
 loop-again : tie.Need-loop-again Inv-loop μ-loop
 loop-again c =
     let s = c .before .before in
@@ -52,9 +34,6 @@ loop-again c =
           (paste-suc (now (s .args .out)) (s .args .a) (s .args .t3) (c .before .loop .k) 0 (omega arith) (omega arith)),
       simp length-set (c .before .loop .inv .2),
     )
-
-same-length : tie.Need-same-length Inv-loop μ-loop
-same-length c = c .before .loop .inv .2
 
 returns : tie.Need-returns Inv-loop μ-loop
 returns c =
@@ -67,12 +46,12 @@ put-spec =
     (tie.spec
     Inv-loop
     μ-loop
-    loop-holds
-    array-read-out
-    add-out
-    slice-write-out
-    add-k
-    loop-less
+    (λ c. (search needs, paste-zero (now (c .args .out)) (c .args .a) (c .args .t3), refl))
+    (λ c. omega arith)
+    (λ c. omega arith)
+    (λ c. omega arith)
+    (λ c. omega arith)
+    (λ c. omega arith)
     loop-again
-    same-length
+    (λ c. c .before .loop .inv .2)
     returns)

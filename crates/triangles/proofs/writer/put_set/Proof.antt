@@ -1,68 +1,68 @@
 -- `put_set` meets its contract: the kinds, one after the other. Assumes nothing.
 use borrow.Author.Needs.{needs}
 use native.Mathlib.Omega.{arith}
-use Prim.Native.Nat.{_+_}
-use mathlib.Core.Path.{_≡_}
-use mathlib.Core.Bool.{cond}
+use Prim.Native.Nat.{ℕ, _≤_, _+_}
+use mathlib.Core.List.{List}
 use lib.ListN.{length}
 use denote.Ref.{now}
-use Rattle.triangles.specs.Written.{kindBytes, setBytes}
-use Rattle.triangles.proofs.Writing.{set-length, set-two, set-three}
+use Rattle.model.specs.Questions.{kinds}
+use Rattle.model.specs.Lengths.{kinds-range}
+use Rattle.triangles.specs.Written.{ofKind, chained, kindBytes, setBytes}
+use Rattle.triangles.proofs.Chained.{Filled, filled-none, filled-room, filled-next}
 use Rattle.triangles.proofs.writer.put_set.Statement.{statement}
 use Rattle.triangles.proofs.writer.put_set.Tie as tie
 
-all-bytes :
-    (s : tie.Start)
-    → length (setBytes (s .args .m) (s .args .has-incurred) (s .args .counts) (s .args .paid) (s .args .incurred))
-    ≡ length (kindBytes (s .args .m) 0 (s .args .counts) 400) + length (kindBytes (s .args .m) 1 (s .args .paid) 400)
-    + cond (s .args .has-incurred) (length (kindBytes (s .args .m) 2 (s .args .incurred) 400)) 0
-all-bytes s = set-length (s .args .m) (s .args .counts) (s .args .paid) (s .args .incurred) (s .args .has-incurred)
+abbrev kindOf : tie.Start → ℕ → List ℕ
+kindOf s t = kindBytes (s .args .m) t (ofKind (now (s .args .counts)) (now (s .args .paid)) (now (s .args .incurred)) t)
+
+room : (s : tie.Start) → 0 + length (chained (kinds (s .args .has-incurred)) (kindOf s)) ≤ length (now (s .args .out))
+unfolding setBytes
+room s = omega (arith, s .pre .1)
+
+first : (c : tie.After-put-kind) → let s = c .before .before .before in Filled (kindOf s) (now (s .args .out)) 0 1 (c .put-kind .last .0) (c .put-kind .result)
+unfolding ofKind
+first c =
+    let s = c .before .before .before in
+    filled-next (kindOf s) (now (s .args .out)) 0 (filled-none _ _ _) _ (room s) (c .put-kind .ensures) (c .put-kind .kept .0)
+
+second : (c : tie.After-put-kind2) → let s = c .before .before .before .before .before .before .before in Filled (kindOf s) (now (s .args .out)) 0 2 (c .put-kind2 .last .0) (c .put-kind2 .result)
+unfolding ofKind
+second c =
+    let s = c .before .before .before .before .before .before .before in
+    filled-next (kindOf s) (now (s .args .out)) 0 (first (c .before .before .before .before)) _ (room s) (c .put-kind2 .ensures) (c .put-kind2 .kept .0)
 
 put-kind-requires : tie.Need-put-kind-requires
-put-kind-requires c κs = (omega arith, omega (arith, c .before .before .pre, all-bytes (c .before .before)))
+unfolding ofKind
+put-kind-requires c κs =
+    let s = c .before .before in
+    ((s .pre .0, omega arith), filled-room (kindOf s) (now (s .args .out)) 0 (filled-none _ _ _) _ (room s) (omega (arith, kinds-range (s .args .has-incurred))))
 
 put-kind-requires-2 : tie.Need-put-kind-requires-2
+unfolding ofKind
 put-kind-requires-2 c κs =
     let d = c .before .before .before in
     let s = d .before .before .before in
-    (omega arith, omega (arith, s .pre, all-bytes s, d .put-kind .ensures .0, d .put-kind .kept .0))
+    ((s .pre .0, omega arith), filled-room (kindOf s) (now (s .args .out)) 0 (first d) _ (room s) (omega (arith, kinds-range (s .args .has-incurred))))
 
 put-kind-requires-3 : tie.Need-put-kind-requires-3
+unfolding ofKind kinds
 put-kind-requires-3 c κs =
-    let e = c .before .before .before .before in
-    let d = e .before .before .before .before in
-    let s = d .before .before .before in
-    let t = c .before .if1 .taken in (
-      omega arith,
-      omega
-          (arith, rw t at (s .pre), rw t at (all-bytes s), d .put-kind .ensures .0, d .put-kind .kept .0, e .put-kind2 .ensures .0, e .put-kind2 .kept .0),
-    )
-
-same-length : tie.Need-same-length
-same-length c = search needs
+    let d = c .before .before .before .before in
+    let s = d .before .before .before .before .before .before .before in
+    ((s .pre .0, omega arith), filled-room (kindOf s) (now (s .args .out)) 0 (second d) _ (room s) (rw (c .before .if1 .taken) (omega arith)))
 
 returns : tie.Need-returns
+unfolding setBytes ofKind kinds
 returns c =
     let g = c .before .before in
-    let e = g .before .before .before .before .before in
-    let d = e .before .before .before .before in
-    let s = d .before .before .before in
+    let d = g .before .before .before .before .before in
+    let s = d .before .before .before .before .before .before .before in
     rw (g .before .before .if1 .taken)
-    (set-three (s .args .m) (s .args .counts) (s .args .paid) (s .args .incurred) (now (s .args .out)) (d .put-kind .last .0) (e .put-kind2 .last .0) (d .put-kind .result)
-    (d .put-kind .ensures .1) (d .put-kind .ensures .0) (e .put-kind2 .ensures .1) (g .put-kind3 .last .0) (e .put-kind2 .result) (e .put-kind2 .ensures .0)
-    (g .put-kind3 .ensures .1))
-
-same-length-2 : tie.Need-same-length-2
-same-length-2 c = search needs
+    (filled-next (kindOf s) (now (s .args .out)) 0 (second d) _ (room s) (g .put-kind3 .ensures) (g .put-kind3 .kept .0) .bytes)
 
 returns-2 : tie.Need-returns-2
-returns-2 c =
-    let e = c .before .before .before in
-    let d = e .before .before .before .before in
-    let s = d .before .before .before in
-    rw (c .if1 .left)
-    (set-two (s .args .m) (s .args .counts) (s .args .paid) (s .args .incurred) (now (s .args .out)) (d .put-kind .last .0) (e .put-kind2 .last .0) (d .put-kind .result)
-    (d .put-kind .ensures .1) (d .put-kind .ensures .0) (e .put-kind2 .ensures .1))
+unfolding setBytes kinds
+returns-2 c = rw (c .if1 .left) (second (c .before .before .before) .bytes)
 
 pub put-set-spec : {M : Type 1} → statement M
 put-set-spec =
@@ -71,7 +71,7 @@ put-set-spec =
     put-kind-requires
     put-kind-requires-2
     put-kind-requires-3
-    same-length
+    (λ c. search needs)
     returns
-    same-length-2
+    (λ c. search needs)
     returns-2)

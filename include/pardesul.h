@@ -32,8 +32,8 @@
 extern "C" {
 #endif
 
-/* The version, 1,000,000 x major + 1,000 x minor + patch: 0.1.0. */
-#define PARDESUL_VERSION 1000
+/* The version, 1,000,000 x major + 1,000 x minor + patch: 0.2.0. */
+#define PARDESUL_VERSION 2000
 
 /* The bytes of stack that are enough for each call, and for any of them: so many a thread has to
  * have free when it makes the call. No theorem says so: the most that a call takes was measured
@@ -44,10 +44,11 @@ extern "C" {
 #define PARDESUL_STACK_SHARES (14 * 1024)
 #define PARDESUL_STACK_DELAYS (15 * 1024)
 #define PARDESUL_STACK_CLAIM_COSTS (15 * 1024)
-#define PARDESUL_STACK_FORECAST (16 * 1024)
+#define PARDESUL_STACK_FORECAST (15 * 1024)
 #define PARDESUL_STACK_BACK_TEST (19 * 1024)
+#define PARDESUL_STACK_CLOSING_PAGE (29 * 1024)
 #define PARDESUL_STACK_TALLY_ADD (3 * 1024)
-#define PARDESUL_STACK_RESPOND (34 * 1024)
+#define PARDESUL_STACK_RESPOND (32 * 1024)
 #define PARDESUL_STACK PARDESUL_STACK_RESPOND
 
 /* The numbers of a triangle, and the place of a cell. */
@@ -69,6 +70,9 @@ extern "C" {
 
 /* The calendar years of a tally; year t stands at place t - 1. */
 #define PARDESUL_YEARS 38
+
+/* The length in bytes of a closing page. */
+#define PARDESUL_PAGE_LENGTH(m) ((size_t)136 * (m))
 
 /* The bytes of the longest text of `closing`. */
 #define PARDESUL_TEXT 2573
@@ -96,7 +100,7 @@ enum pardesul_inflation {
 /* The refusal numbers. C(i,j) is the sum of row i up to delay j; A(j) sums C(i,j-1) and B(j) sums
  * C(i,j), both over rows 1 to m - j; g(j) is the share of a row, in billionths, that is there up to
  * delay j, estimated from them; a row base is the amount that a year's forecast spreads. 13 and 14
- * come under methods 1 and 2 only. */
+ * come under methods 1 and 2 only; 15 is asked of a closing page, in place of 7. */
 enum pardesul_refusal {
   PARDESUL_ACCEPTED = 0,
   /* m is not 2 to 20 */
@@ -129,6 +133,8 @@ enum pardesul_refusal {
   PARDESUL_REFUSED_INCURRED = 13,
   /* a row base is outside -2 × 10^14 to 2 × 10^14 */
   PARDESUL_REFUSED_BASE = 14,
+  /* the page is shorter than 136 × m bytes */
+  PARDESUL_REFUSED_PAGE = 15,
 };
 
 /* An array parameter of at least so many places. C says so with `static`, by which compilers
@@ -200,6 +206,16 @@ uint64_t pardesul_forecast(const uint8_t *file, size_t file_length, size_t m, ui
 uint64_t pardesul_back_test(const uint8_t *file, size_t file_length, size_t m, uint64_t method,
                             uint64_t basis, size_t c, uint64_t *cells, uint64_t *cellwise,
                             uint64_t *yearwise, uint64_t *overall);
+
+/* The closing page: the forecast as `closing` prints it, but in columns. PARDESUL_PAGE_LENGTH(m)
+ * bytes go to the front of page, which has page_length bytes; those past them stay. They are 2m
+ * lines of 67 characters and a newline: a year of 4 characters and three amounts of 21, RBNS, IBNR
+ * and their sum, all right-aligned with spaces, a minus sign right before a negative amount. The
+ * first line has the words YEAR, RBNS, IBNR and TOTAL, then come the calendar years 1 to 2m - 2,
+ * and the last line has ALL as its year, and the totals. method and basis are those of
+ * pardesul_forecast. Refuses with 1 to 6, 15 and 9 to 14, in this order. */
+uint64_t pardesul_closing_page(const uint8_t *file, size_t file_length, size_t m, uint64_t method,
+                               uint64_t basis, uint8_t *page, size_t page_length);
 
 /* Adds a cell to the sums of calendar year `year`, reported to rbns and unreported to ibnr. The
  * year of cell (i,j) of a forecast is i + j - m, 1 to 2m - 2. For a year outside 1 to 38, or where

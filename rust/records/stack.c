@@ -26,6 +26,7 @@ static int64_t triangles[3][PARDESUL_CELLS], lists[5][PARDESUL_LIST];
 static int64_t entries[PARDESUL_ENTRIES(YEARS)], years[2][PARDESUL_YEARS];
 static double mu, factors[PARDESUL_LIST], ratios[PARDESUL_LIST];
 static uint8_t kinds[PARDESUL_LIST], text[PARDESUL_TEXT], copy[LENGTH];
+static uint8_t page[PARDESUL_PAGE_LENGTH(YEARS)];
 static uint64_t sums[4];
 static bool has_incurred;
 
@@ -92,6 +93,13 @@ static void back_test(void) {
   EACH_INPUT EACH_METHOD for (size_t c = 0; c < YEARS; c++) {
     answer(pardesul_back_test(in->file, in->length, m, method, basis, c, sums, sums + 1, sums + 2,
                               sums + 3));
+  }
+}
+
+static void closing_page(void) {
+  EACH_INPUT EACH_METHOD for (size_t less = 0; less <= 1; less++) {
+    answer(pardesul_closing_page(in->file, in->length, m, method, basis, page,
+                                 sizeof page - less));
   }
 }
 
@@ -207,6 +215,7 @@ int main(void) {
       {"claim_costs", claim_costs, PARDESUL_STACK_CLAIM_COSTS, FROM_TO(0, 5) | FROM_TO(9, 11)},
       {"forecast", forecast, PARDESUL_STACK_FORECAST, FROM_TO(0, 7) | FROM_TO(9, 14)},
       {"back_test", back_test, PARDESUL_STACK_BACK_TEST, FROM_TO(0, 6) | FROM_TO(8, 14)},
+      {"closing_page", closing_page, PARDESUL_STACK_CLOSING_PAGE, FROM_TO(0, 6) | FROM_TO(9, 15)},
       {"tally_add", tally_add, PARDESUL_STACK_TALLY_ADD, 1u << 0},
       {"respond", respond, PARDESUL_STACK_RESPOND, FROM_TO(0, 6) | FROM_TO(9, 14)},
   };

@@ -1,22 +1,22 @@
 -- Laws of the back-test: of a set, from its forecast and its errors; of a file, its refusal
 -- question by question. Assumes nothing.
 use mathlib.Core.Path.{_≡_, sym, _∙_, ap}
-use mathlib.Core.Bool.{Bool, true, false, and-false}
+use mathlib.Core.Bool.{Bool, and-false}
 use mathlib.Core.List.{List}
 use Prim.Native.Nat.{ℕ, suc, _+_, _-_, _≤_, _<_}
 use native.Mathlib.Omega.{arith}
 use borrow.Author.Tests.{le-leb, lt-leb}
 use lib.Dec.{leb}
 use lib.IntN.{ℤ}
-use Rattle.model.specs.Records.{cell, setOf, hasIncurred}
+use Rattle.model.specs.Records.{cell, setOf}
 use Rattle.model.specs.Delays.{delaysOf}
 use Rattle.model.specs.Cells.{rbns, ibnr}
 use Rattle.model.specs.Lent.{triangleIn, lentSet}
 use Rattle.model.specs.BackTest.{cutTo, gap, cellNumber, cellwise, yearwise, overall}
-use Rattle.model.specs.Questions.{q6, q8, ofForecast}
+use Rattle.model.specs.Questions.{q8, ofForecast}
 use Rattle.model.specs.CallsLaws as CallsLaws
-use Rattle.model.specs.CallsLaws.{if-refused}
-use Rattle.model.specs.Calls.{readRefusal, backTestRefusal, backTestOf, acceptedBackTest, refusedBackTest, backTestAnswer}
+use Rattle.model.specs.CallsLaws.{settingsRefusal, if-refused}
+use Rattle.model.specs.Calls.{backTestRefusal, backTestOf, acceptedBackTest, refusedBackTest, backTestAnswer}
 use Rattle.model.specs.declared.TriangleSet.{TriangleSet}
 use Rattle.chain_ladder.specs.Sums.{Small}
 use Rattle.chain_ladder.specs.Valid.{Amounts}
@@ -111,36 +111,32 @@ module _ (m : ℕ) (f : List ℕ) (c method basis : ℕ) where
   abbrev refusal : ℕ
   refusal = backTestRefusal m f c method basis
 
-  abbrev six : Type 0
-  six = q6 (hasIncurred m f) method basis ≡ true
+  abbrev settings : ℕ
+  settings = settingsRefusal m f method basis
 
   pub refused : (k : ℕ) → (k ≡ 0 → ⊥) → refusal ≡ k → backTestAnswer m f c method basis ≡ refusedBackTest k
   unfolding backTestAnswer
   refused k o e = if-refused _ _ _ (λ z. o (sym e ∙ z)) ∙ ap refusedBackTest e
 
-  pub by-file : (readRefusal m f ≡ 0 → ⊥) → refusal ≡ readRefusal m f
+  pub by-settings : (settings ≡ 0 → ⊥) → refusal ≡ settings
   unfolding backTestRefusal
-  by-file = CallsLaws.by-file m f _ _
+  by-settings = CallsLaws.by-settings m f method basis 7 (q8 m c) (ofForecast (m - c) cutSet (delaysOf (m - c) cutSet) method)
 
-  module _ (read : readRefusal m f ≡ 0) where
-    pub by-six : q6 (hasIncurred m f) method basis ≡ false → refusal ≡ 6
-    unfolding backTestRefusal
-    by-six = CallsLaws.no-6 m f method basis 7 (q8 m c) (ofForecast (m - c) cutSet (delaysOf (m - c) cutSet) method) read
-
-    pub none-cut : six → c < 1 → refusal ≡ 8
+  module _ (passed : settings ≡ 0) where
+    pub none-cut : c < 1 → refusal ≡ 8
     unfolding backTestRefusal q8
-    none-cut ok h = CallsLaws.no-next m f method basis 7 (q8 m c) (ofForecast (m - c) cutSet (delaysOf (m - c) cutSet) method) read ok (rw (lt-leb 1 c h))
+    none-cut h = CallsLaws.no-own m f method basis 7 (q8 m c) (ofForecast (m - c) cutSet (delaysOf (m - c) cutSet) method) passed (rw (lt-leb 1 c h))
 
-    pub much-cut : six → m < c + 2 → refusal ≡ 8
+    pub much-cut : m < c + 2 → refusal ≡ 8
     unfolding backTestRefusal q8
-    much-cut ok h =
-        CallsLaws.no-next m f method basis 7 (q8 m c) (ofForecast (m - c) cutSet (delaysOf (m - c) cutSet) method) read ok
+    much-cut h =
+        CallsLaws.no-own m f method basis 7 (q8 m c) (ofForecast (m - c) cutSet (delaysOf (m - c) cutSet) method) passed
         (rw (lt-leb (c + 2) m h) (and-false (leb 1 c)))
 
-    pub tested : six → 1 ≤ c → c + 2 ≤ m → setTest m s c method basis ≡ backTestAnswer m f c method basis
+    pub tested : 1 ≤ c → c + 2 ≤ m → setTest m s c method basis ≡ backTestAnswer m f c method basis
     unfolding setTest setRefusal backTestAnswer backTestRefusal q8
-    tested ok h l =
+    tested h l =
         let to-set =
-        CallsLaws.to-set m f method basis 7 (q8 m c) (ofForecast (m - c) cutSet (delaysOf (m - c) cutSet) method) read ok
+        CallsLaws.to-set m f method basis 7 (q8 m c) (ofForecast (m - c) cutSet (delaysOf (m - c) cutSet) method) passed
         (rw (le-leb 1 c h, le-leb (c + 2) m l)) in
         rw to-set

@@ -103,13 +103,9 @@ pub fn back_test(file: &[u8], m: usize, method: u64, basis: u64, c: usize) -> Ba
     ensures { λ r. ⌜ r ≡ backTestAnswer m (now (file .entry)) c method basis ⌝ }
 {
     let mut set = [0i64; 1200];
-    let refusal = triangles::read_cells(file, m, &mut set);
+    let refusal = forecast::read_to_forecast(file, m, method, basis, &mut set);
     if refusal != 0 {
         return refused(refusal);
-    }
-    let has_incurred = triangles::has_incurred(file, m);
-    if !forecast::q6(has_incurred, method, basis) {
-        return refused(6);
     }
     if c < 1 {
         return refused(8);

@@ -1,12 +1,8 @@
--- Laws of document 01's "Calendar years and the program".
-pub mod YearSums
-pub mod YearRows
-pub mod Printable
-pub mod Written
-pub mod Digits
-pub mod Amount
-pub mod TallyTextLaws
-pub mod Runs
+-- Laws of the text that `closing` prints for an input, and of the closing page of a file.
+-- PageReads: what is read at each line and column of a page.
 pub mod Cut
-pub mod ReadBack
 pub mod Respond
+pub mod PageReads
+pub mod ReadingLaws
+pub mod PageReadsLaws
+pub mod PageCall

@@ -8,28 +8,28 @@ use borrow.Author.Tests.{ne-eqb, le-leb, lt-leb}
 use lib.ListN.{length, take, drop, length-append, length-drop}
 use lib.Seq.{take-all, take-append-seam}
 use Rattle.model.specs.Overlay.{overlay}
-use Rattle.model.specs.Calendar.{runAt, first, second, third, firstLine, refusalOf, tallyOf, tallyText, refusalText}
-use Rattle.model.specs.Calls.{zeros, forecastRefusal, forecastOutput, fileText, closingOf, closingText, respondAnswer, respondOutput, Responded}
+use Rattle.model.specs.Calendar.{runAt, first, second, third, firstLine, refusalOf, tallyText, refusalText}
+use Rattle.model.specs.Calls.{zeros, forecastRefusal, fileTally, fileText, closingOf, closingText, respondAnswer, respondOutput, Responded}
 use Rattle.model.specs.declared.Run.{Run}
 use Rattle.model.specs.declared.Run.the-variants.{Number, Wrong}
 use Rattle.model.specs.declared.FirstLine.the-variants.{Asked, Refused}
 use Rattle.triangles.specs.Order.{SameRecords}
 use Rattle.triangles.specs.CallsOrder.{forecast-refusal-order, output-order}
-use Rattle.calendar.specs.Runs.{run-within}
+use Rattle.text.specs.Runs.{run-within}
 use Rattle.calendar.specs.Cut.{cut-same}
-use Rattle.calendar.specs.Written.{Written, written-length, written-whole}
+use Rattle.text.specs.Written.{Written, written-length, written-whole}
 
 pub text-refused : (m : ℕ) (f : List ℕ) (method basis n : ℕ) → (n ≡ 0 → ⊥) → forecastRefusal m f method basis 1560 ≡ n → fileText m f method basis ≡ refusalText n
 unfolding fileText
 text-refused m f method basis n o e = rw (e, ne-eqb n 0 o)
 
-pub text-accepted : (m : ℕ) (f : List ℕ) (method basis : ℕ) → forecastRefusal m f method basis 1560 ≡ 0 → fileText m f method basis ≡ tallyText m (tallyOf m (forecastOutput m f method basis (zeros 1560)))
+pub text-accepted : (m : ℕ) (f : List ℕ) (method basis : ℕ) → forecastRefusal m f method basis 1560 ≡ 0 → fileText m f method basis ≡ tallyText m (fileTally m f method basis)
 unfolding fileText
 text-accepted m f method basis e = rw e
 
 -- the order of the records changes nothing
 pub text-order : (f g : List ℕ) → SameRecords f g → (m method basis : ℕ) → fileText m f method basis ≡ fileText m g method basis
-unfolding fileText
+unfolding fileText fileTally
 text-order f g same m method basis = rw (forecast-refusal-order f g same m method basis 1560, output-order f g same m method basis (zeros 1560))
 
 -- ---- parts of a list

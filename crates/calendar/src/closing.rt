@@ -1,10 +1,10 @@
 // The whole answer of `closing` to its input.
-use crate::first_line::read_first_line;
-use crate::tally::tally_of;
-use crate::tally_text::write_bytes;
-use crate::tally_text::write_refusal;
-use crate::tally_text::write_tally_text;
 use model::FirstLine;
+use tally::tally_of;
+use text::first_line::read_first_line;
+use text::tally_text::write_refusal;
+use text::tally_text::write_tally_text;
+use text::write_bytes;
 ghost use mathlib.Core.Path.{_≡_};
 ghost use Prim.Native.Nat.{_≤_};
 ghost use lib.ListN.{length};
@@ -55,7 +55,7 @@ fn respond_short(input: &[u8], out: &mut [u8]) -> usize
     if out.len() < n {
         return 0;
     }
-    write_bytes(out, &text[0..n])
+    write_bytes(out, 0, &text[0..n])
 }
 
 // The text that `closing` prints for its whole standard input, written to the front of the output;

@@ -1,22 +1,21 @@
 -- Laws of the forecast of a file: its refusal question by question, and its whole contract from the
 -- forecast of the set. Assumes nothing.
 use mathlib.Core.Path.{_≡_, refl, sym, _∙_}
-use mathlib.Core.Bool.{true, false}
 use mathlib.Core.List.{List}
 use Prim.Native.Nat.{ℕ, _≤_, _<_}
 use borrow.Author.Tests.{le-leb, lt-leb, leb-true}
 use lib.Dec.{eqb}
 use lib.IntN.{ℤ}
 use lib.ListN.{length}
-use Rattle.model.specs.Records.{setOf, hasIncurred}
+use Rattle.model.specs.Records.{setOf}
 use Rattle.model.specs.Delays.{delaysOf}
 use Rattle.model.specs.Cells.{size}
 use Rattle.model.specs.RowBases.{leftovers}
 use Rattle.model.specs.PaidReserve.{NearReserves}
-use Rattle.model.specs.Questions.{q6, q7, ofForecast}
-use Rattle.model.specs.Calls.{ifAccepted, zeros, readRefusal, forecastRefusal, forecastAnswer, forecastOutput, Forecasted}
+use Rattle.model.specs.Questions.{q7, ofForecast}
+use Rattle.model.specs.Calls.{ifAccepted, zeros, forecastRefusal, forecastAnswer, forecastOutput, Forecasted}
 use Rattle.model.specs.CallsLaws as CallsLaws
-use Rattle.model.specs.CallsLaws.{if-refused, number-of, as-answered}
+use Rattle.model.specs.CallsLaws.{settingsRefusal, if-refused, number-of, as-answered}
 use Rattle.model.specs.Tests.{by-test}
 use Rattle.model.specs.declared.TriangleSet.{TriangleSet}
 use Rattle.model.specs.declared.ForecastAnswer.{ForecastAnswer}
@@ -29,34 +28,31 @@ module _ (m : ℕ) (f : List ℕ) (method basis : ℕ) (before : List ℤ) where
   abbrev refusal : ℕ
   refusal = forecastRefusal m f method basis (length before)
 
-  abbrev six : Type 0
-  six = q6 (hasIncurred m f) method basis ≡ true
+  abbrev settings : ℕ
+  settings = settingsRefusal m f method basis
 
   -- ---- the refusal, question by question
-  pub by-file : (readRefusal m f ≡ 0 → ⊥) → refusal ≡ readRefusal m f
+  pub by-settings : (settings ≡ 0 → ⊥) → refusal ≡ settings
   unfolding forecastRefusal
-  by-file = CallsLaws.by-file m f _ _
+  by-settings = CallsLaws.by-settings m f method basis 6 (q7 m (length before)) (ofForecast m s (delaysOf m s) method)
 
-  pub by-six : readRefusal m f ≡ 0 → q6 (hasIncurred m f) method basis ≡ false → refusal ≡ 6
-  unfolding forecastRefusal
-  by-six = CallsLaws.no-6 m f method basis 6 (q7 m (length before)) (ofForecast m s (delaysOf m s) method)
-
-  pub by-room : readRefusal m f ≡ 0 → six → length before < size m → refusal ≡ 7
+  pub by-room : settings ≡ 0 → length before < size m → refusal ≡ 7
   unfolding forecastRefusal q7
-  by-room read ok h =
-      CallsLaws.no-next m f method basis 6 (q7 m (length before)) (ofForecast m s (delaysOf m s) method) read ok (lt-leb (size m) (length before) h)
+  by-room z h = CallsLaws.no-own m f method basis 6 (q7 m (length before)) (ofForecast m s (delaysOf m s) method) z (lt-leb (size m) (length before) h)
 
-  by-set : readRefusal m f ≡ 0 → six → size m ≤ length before → refusal ≡ setRefusal m s method
+  by-set : settings ≡ 0 → size m ≤ length before → refusal ≡ setRefusal m s method
   unfolding forecastRefusal q7 setRefusal
-  by-set read ok h =
-      CallsLaws.to-set m f method basis 6 (q7 m (length before)) (ofForecast m s (delaysOf m s) method) read ok (le-leb (size m) (length before) h)
+  by-set z h = CallsLaws.to-set m f method basis 6 (q7 m (length before)) (ofForecast m s (delaysOf m s) method) z (le-leb (size m) (length before) h)
 
   -- what the questions say of an accepted file
-  pub passed : refusal ≡ 0 → (readRefusal m f ≡ 0) × six × (size m ≤ length before) × (setRefusal m s method ≡ 0)
+  pub passed : refusal ≡ 0 → (settings ≡ 0) × (size m ≤ length before) × (setRefusal m s method ≡ 0)
   unfolding forecastRefusal q7 setRefusal
   passed z =
-      let a = CallsLaws.settings-so m f method basis 6 (q7 m (length before)) (ofForecast m s (delaysOf m s) method) z in
-      (a .0, a .1, leb-true (size m) (length before) (a .2), a .3)
+      let a = CallsLaws.call-so m f method basis 6 (q7 m (length before)) (ofForecast m s (delaysOf m s) method) z in
+      (a .0, leb-true (size m) (length before) (a .1), a .2)
+
+  pub accepted : settings ≡ 0 → size m ≤ length before → setRefusal m s method ≡ 0 → refusal ≡ 0
+  accepted z h e = by-set z h ∙ e
 
   -- ---- the contract, over the refusal number n, the leftovers before and after, and the output
   abbrev answer : ForecastAnswer
@@ -81,13 +77,13 @@ module _ (m : ℕ) (f : List ℕ) (method basis : ℕ) (before : List ℤ) where
   lefts-beside left e = rw e (by-test (eqb refusal 0) (λ t. rw t) (λ t. rw t))
 
   -- what the forecast of the file's set t answers and writes is the file's
-  pub forecasted : readRefusal m f ≡ 0 → six → size m ≤ length before → {t : TriangleSet} → t ≡ s → {n : ℕ} {left lefts after : List ℤ}
+  pub forecasted : settings ≡ 0 → size m ≤ length before → {t : TriangleSet} → t ≡ s → {n : ℕ} {left lefts after : List ℤ}
       → Answered (setRefusal m t method) m t (delaysOf m t) method basis n left lefts before after
       → (n ≡ 0 → method ≡ 0 → basis ≡ 1 → NearReserves m (t .paid) after) → Into n left lefts after
   unfolding forecastOutput
-  forecasted read ok room {t} is {n} {left} {lefts} {after} made near =
+  forecasted passed room {t} is {n} {left} {lefts} {after} made near =
       let a : Answered (setRefusal m s method) m s (delaysOf m s) method basis n left lefts before after = rw is at made in
-      let e : n ≡ refusal = a .refusal ∙ sym (by-set read ok room) in
+      let e : n ≡ refusal = a .refusal ∙ sym (by-set passed room) in
       (e ∙ sym number-is, (a .leftovers-are ∙ lefts-beside left e, (a .output ∙ rw e, rw is at near)))
 
   -- with zeros for leftovers it is the answer by value

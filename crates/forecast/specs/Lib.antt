@@ -1,6 +1,7 @@
--- SetForecast: the forecast of a set, and of what is prepared of it. FileLaws: the forecast of a
--- file.
+-- SetForecast: the forecast of a set, and of what is prepared of it. ReadFile: questions 1 to 6 of
+-- a file. FileLaws: its forecast.
 pub mod SetForecast
 pub mod SetForecastLaws
+pub mod ReadFile
 pub mod FileLaws
 pub mod SmallEntries

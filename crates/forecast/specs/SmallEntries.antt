@@ -19,6 +19,7 @@ use Rattle.model.specs.CellsLaws.{written}
 use Rattle.model.specs.Questions.{q6}
 use Rattle.model.specs.declared.TriangleSet.{TriangleSet}
 use Rattle.model.specs.Calls.{forecastRefusal, forecastOutput}
+use Rattle.model.specs.CallsLaws.{settings-so}
 use Rattle.chain_ladder.specs.Accepted.{valid-set}
 use Rattle.chain_ladder.specs.Valid.{Valid, few, least}
 use Rattle.cells.specs.SmallLaws.{rbns-small, ibnr-small}
@@ -72,5 +73,6 @@ pub file-small : (m : ℕ) (f : List ℕ) (method basis : ℕ) (before : List �
 unfolding forecastOutput setOf
 file-small m f method basis before z =
     let p = passed m f method basis before z in
-    let v = valid-set m f (p .0) in
-    (least m (setOf m f) v, few m (setOf m f) v, p .2, rw z (output-small m (setOf m f) method basis v (p .1) (p .3) before))
+    let q = settings-so m f method basis (p .0) in
+    let v = valid-set m f (q .0) in
+    (least m (setOf m f) v, few m (setOf m f) v, p .1, rw z (output-small m (setOf m f) method basis v (q .1) (p .2) before))

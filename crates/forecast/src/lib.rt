@@ -9,10 +9,12 @@ ghost use Rattle.model.specs.Questions.{q6};
 ghost use Rattle.model.specs.Records.{setOf};
 ghost use Rattle.model.specs.PaidReserve.{NearReserves};
 ghost use Rattle.model.specs.Calls.{ifAccepted, forecastAnswer, forecastOutput, Forecasted};
-ghost use lib.ListN.{length};
+ghost use Rattle.forecast.specs.ReadFile.{Readied};
+ghost use lib.IntN.{pos};
+ghost use lib.ListN.{length, replicate};
 
 // Question 6.
-pub fn q6(has_incurred: bool, method: u64, basis: u64) -> bool
+fn q6(has_incurred: bool, method: u64, basis: u64) -> bool
     ensures { λ r. ⌜ r ≡ q6 «has_incurred» method basis ⌝ }
 {
     if 2 < method {
@@ -25,6 +27,29 @@ pub fn q6(has_incurred: bool, method: u64, basis: u64) -> bool
         return true;
     }
     has_incurred
+}
+
+// Questions 1 to 6 of a file and, where each gets a yes, its set in the lent list, which comes as
+// zeros.
+pub fn read_to_forecast(
+    file: &[u8],
+    m: usize,
+    method: u64,
+    basis: u64,
+    set: &mut [i64; 1200],
+) -> u64
+    requires { ⌜ now set ≡ replicate 1200 (pos 0) ⌝ }
+    ensures { λ r. ⌜ Readied m (now (file .entry)) method basis r (now (set .exit)) ⌝ }
+{
+    let refusal = triangles::read_cells(file, m, set);
+    if refusal != 0 {
+        return refusal;
+    }
+    let has_incurred = triangles::has_incurred(file, m);
+    if !q6(has_incurred, method, basis) {
+        return 6;
+    }
+    0
 }
 
 // The forecast of a file, by method (0 DCL, 1 BDCL, 2 IDCL) and basis (0 actual, 1 estimated
@@ -45,13 +70,9 @@ pub fn forecast_into(
     ensures { λ r. ⌜ (r ≡ 0 → method ≡ 0 → basis ≡ 1 → NearReserves m (setOf m (now (file .entry)) .paid) (now (out .exit))) ⌝ }
 {
     let mut set = [0i64; 1200];
-    let refusal = triangles::read_cells(file, m, &mut set);
+    let refusal = read_to_forecast(file, m, method, basis, &mut set);
     if refusal != 0 {
         return refusal;
-    }
-    let has_incurred = triangles::has_incurred(file, m);
-    if !q6(has_incurred, method, basis) {
-        return 6;
     }
     if out.len() < 2 * m * (2 * m - 1) {
         return 7;

@@ -63,14 +63,18 @@ amount (negsuc n) = 45 ∷ digits (suc n)
 unfoldable pub line : List ℕ → ℤ → ℤ → List ℕ
 line name x y = name ++ (32 ∷ []) ++ amount x ++ (32 ∷ []) ++ amount y ++ (32 ∷ []) ++ amount (x +ℤ y) ++ (10 ∷ [])
 
--- the lines of calendar years 1 to n, each named by its year
-unfoldable pub lines : Tally → ℕ → List ℕ
-lines t zero = []
-lines t (suc n) = lines t n ++ line (digits (suc n)) (at (t .rbns) n) (at (t .ibnr) n)
+-- the lines of calendar years 1 to n, each laid out from its year's digits, RBNS and IBNR
+unfoldable pub lines : (List ℕ → ℤ → ℤ → List ℕ) → Tally → ℕ → List ℕ
+lines layout t zero = []
+lines layout t (suc n) = lines layout t n ++ layout (digits (suc n)) (at (t .rbns) n) (at (t .ibnr) n)
 
--- the text of a tally: a line for each of the 2m - 2 calendar years, and one named T (84) for all
+-- those of the 2m - 2 calendar years, and one, with the name `all`, of their totals
+unfoldable pub allLines : (List ℕ → ℤ → ℤ → List ℕ) → List ℕ → ℕ → Tally → List ℕ
+allLines layout all m t = lines layout t (2 * m - 2) ++ layout all (sum (2 * m - 2) (at (t .rbns))) (sum (2 * m - 2) (at (t .ibnr)))
+
+-- the text of a tally: the totals are named T (84)
 unfoldable pub tallyText : ℕ → Tally → List ℕ
-tallyText m t = lines t (2 * m - 2) ++ line (84 ∷ []) (sum (2 * m - 2) (at (t .rbns))) (sum (2 * m - 2) (at (t .ibnr)))
+tallyText m t = allLines line (84 ∷ []) m t
 
 -- the text of the refusal n: "refused ", its digits and a newline
 unfoldable pub refusalText : ℕ → List ℕ

@@ -1,6 +1,6 @@
 -- The whole answer of each public call, refusals included: what it hands back, and what the lent
 -- memory holds afterwards.
-use Prim.Native.Nat.{ℕ, _-_, _≤_}
+use Prim.Native.Nat.{ℕ, _-_, _*_, _≤_}
 use mathlib.Core.Path.{_≡_}
 use mathlib.Core.Bool.{Bool, true, false, cond}
 use mathlib.Core.List.{List, [], _∷_, _++_}
@@ -14,9 +14,10 @@ use Rattle.model.specs.RowBases.{leftovers}
 use Rattle.model.specs.Cells.{outputFrom}
 use Rattle.model.specs.PaidReserve.{NearReserves}
 use Rattle.model.specs.Calendar.{tallyOf, tallyText, refusalText, firstLine, refusalOf}
+use Rattle.model.specs.Page.{pageText}
 use Rattle.model.specs.ClaimCosts.{claimCosts, noClaimCosts}
 use Rattle.model.specs.BackTest.{cutTo, gap, cellNumber, cellwise, yearwise, overall}
-use Rattle.model.specs.Questions.{Question, firstNo, ofFile, ofShares, ofDelays, ofForecast, q1, q4, q5Writer, q6, q7, q7Writer, q8}
+use Rattle.model.specs.Questions.{Question, firstNo, ofFile, ofShares, ofDelays, ofForecast, q1, q4, q5Writer, q6, q7, q7Writer, q8, q15}
 use Rattle.model.specs.declared.TriangleSet.{TriangleSet}
 use Rattle.model.specs.declared.ReadAnswer.{ReadAnswer}
 use Rattle.model.specs.declared.SharesAnswer.{SharesAnswer}
@@ -25,6 +26,7 @@ use Rattle.model.specs.declared.ForecastAnswer.{ForecastAnswer}
 use Rattle.model.specs.declared.ClaimCosts.{ClaimCosts}
 use Rattle.model.specs.declared.ClaimCostsAnswer.{ClaimCostsAnswer}
 use Rattle.model.specs.declared.BackTestAnswer.{BackTestAnswer}
+use Rattle.model.specs.declared.Tally.{Tally}
 use Rattle.model.specs.declared.FirstLine.{FirstLine}
 use Rattle.model.specs.declared.FirstLine.the-variants.{Asked, Refused}
 
@@ -174,12 +176,15 @@ backTestAnswer m f c method basis =
 
 -- ---- the program `closing` (01, Calendar years): what it prints for its standard input
 
--- for the file behind the first line: the text of its tally, or of its refusal; 1560 entries are
--- room for m = 20
+-- the tally of a file's forecast; 1560 entries are room for m = 20
+unfoldable pub fileTally : ℕ → List ℕ → ℕ → ℕ → Tally
+fileTally m f method basis = tallyOf m (forecastOutput m f method basis (zeros 1560))
+
+-- for the file behind the first line: the text of its tally, or of its refusal
 unfoldable pub fileText : ℕ → List ℕ → ℕ → ℕ → List ℕ
 fileText m f method basis =
     let n = forecastRefusal m f method basis 1560 in
-    ifAccepted n (tallyText m (tallyOf m (forecastOutput m f method basis (zeros 1560)))) (refusalText n)
+    ifAccepted n (tallyText m (fileTally m f method basis)) (refusalText n)
 
 -- for the input s, whose first line asks this
 unfoldable pub closingOf : List ℕ → FirstLine → List ℕ
@@ -204,3 +209,20 @@ pub record Responded (buffer : List ℕ) (n : ℕ) (before after : List ℕ) (r 
   pub result : r ≡ length (closingText (take n buffer))
   pub output : after ≡ closingText (take n buffer) ++ drop (length (closingText (take n buffer))) before
   pub started : length buffer ≤ n → (s : List ℕ) → take (length buffer) s ≡ buffer → closingText (take n buffer) ≡ closingText s
+
+-- ---- the closing page (02, Job 1): questions 1 to 6, 15 in place of 7, and 9 to 14
+
+unfoldable pub pageRefusal : ℕ → List ℕ → ℕ → ℕ → ℕ → ℕ
+pageRefusal m f method basis room =
+    let s = setOf m f in
+    callRefusal m f ((6, q6 (hasIncurred m f) method basis) ∷ (15, q15 m room) ∷ []) (ofForecast m s (delaysOf m s) method)
+
+-- the page of a file: of the very tally whose text `closing` prints
+unfoldable pub filePage : ℕ → List ℕ → ℕ → ℕ → List ℕ
+filePage m f method basis = pageText m (fileTally m f method basis)
+
+-- the lent page afterwards: the file's page in the first 136 × m bytes, and what stood behind them;
+-- a refusal leaves it as it was
+unfoldable pub pageOutput : ℕ → List ℕ → ℕ → ℕ → List ℕ → List ℕ
+pageOutput m f method basis before =
+    ifAccepted (pageRefusal m f method basis (length before)) (filePage m f method basis ++ drop (136 * m) before) before

@@ -1,10 +1,10 @@
 -- Laws of Calls: a call's refusal by its stages, and its answer by its refusal. Assumes nothing.
 use mathlib.Core.Path.{_≡_, refl, sym, _∙_, ap}
 use mathlib.Core.Bool.{Bool, true, false}
-use mathlib.Core.List.{List, [], _∷_, _++_}
+use mathlib.Core.List.{List, [], _∷_, _++_, append-assoc}
 use Prim.Native.Nat.{ℕ, suc}
 use native.Mathlib.Omega.{arith}
-use borrow.Author.Tests.{ne-eqb, eqb-true, le-leb}
+use borrow.Author.Tests.{ne-eqb, eqb-true}
 use lib.Dec.{eqb}
 use Rattle.model.specs.Records.{hasIncurred}
 use Rattle.model.specs.Questions.{Question, q6, firstNo, ofFile, ofRecords}
@@ -44,9 +44,6 @@ module _ (m : ℕ) (f : List ℕ) (own ofSet : List Question) where
   after-file = stage-yes (ofFile m f) (own ++ ofSet) file-numbered
 
   module _ (numbers : numbered own ≡ true) where
-    pub by-own : readRefusal m f ≡ 0 → (firstNo own ≡ 0 → ⊥) → callRefusal m f own ofSet ≡ firstNo own
-    by-own read o = after-file read ∙ stage-no own ofSet numbers o
-
     pub by-set : readRefusal m f ≡ 0 → firstNo own ≡ 0 → callRefusal m f own ofSet ≡ firstNo ofSet
     by-set read e = after-file read ∙ stage-yes own ofSet numbers e
 
@@ -57,40 +54,74 @@ module _ (m : ℕ) (f : List ℕ) (own ofSet : List Question) where
         let b = stages-so own ofSet numbers (a .1) in
         (a .0, b .0, b .1)
 
--- ---- question 6 and one more of the call's own, number k + 1
-module _ (m : ℕ) (f : List ℕ) (method basis k : ℕ) (x : Bool) (ofSet : List Question) where
+-- ---- questions 1 to 6, of a file that is to be forecast by a method and a basis
+unfoldable pub settingsRefusal : ℕ → List ℕ → ℕ → ℕ → ℕ
+settingsRefusal m f method basis = callRefusal m f ((6, q6 (hasIncurred m f) method basis) ∷ []) []
+
+module _ (m : ℕ) (f : List ℕ) (method basis : ℕ) where
   abbrev six : Bool
   six = q6 (hasIncurred m f) method basis
 
-  abbrev own : List Question
-  own = (6, six) ∷ (suc k, x) ∷ []
+  abbrev settings : ℕ
+  settings = settingsRefusal m f method basis
 
-  abbrev refusal : ℕ
-  refusal = callRefusal m f own ofSet
-
-  both-numbered : numbered own ≡ true
-  unfolding numbered
-  both-numbered = rw (le-leb 1 (suc k) (omega arith))
+  pub file-no : (readRefusal m f ≡ 0 → ⊥) → settings ≡ readRefusal m f
+  unfolding settingsRefusal
+  file-no = by-file m f ((6, six) ∷ []) []
 
   module _ (read : readRefusal m f ≡ 0) where
-    pub no-6 : six ≡ false → refusal ≡ 6
-    unfolding firstNo
-    no-6 e = let first : firstNo own ≡ 6 = rw e in by-own m f own ofSet both-numbered read (λ (z : firstNo own ≡ 0). omega arith) ∙ first
+    pub six-no : six ≡ false → settings ≡ 6
+    unfolding settingsRefusal firstNo
+    six-no e = after-file m f ((6, six) ∷ []) [] read ∙ rw e
 
-    module _ (yes : six ≡ true) where
-      pub no-next : x ≡ false → refusal ≡ suc k
-      unfolding firstNo
-      no-next e = let second : firstNo own ≡ suc k = rw (yes, e) in by-own m f own ofSet both-numbered read (λ (z : firstNo own ≡ 0). omega arith) ∙ second
+    pub six-yes : six ≡ true → settings ≡ 0
+    unfolding settingsRefusal firstNo
+    six-yes e = after-file m f ((6, six) ∷ []) [] read ∙ rw e
 
-      pub to-set : x ≡ true → refusal ≡ firstNo ofSet
-      unfolding firstNo
-      to-set e = by-set m f own ofSet both-numbered read (rw (yes, e))
-
-  pub settings-so : refusal ≡ 0 → (readRefusal m f ≡ 0) × (six ≡ true) × (x ≡ true) × (firstNo ofSet ≡ 0)
+  pub settings-so : settings ≡ 0 → (readRefusal m f ≡ 0) × (six ≡ true)
+  unfolding settingsRefusal numbered
   settings-so z =
-      let a = all-passed m f own ofSet both-numbered z in
-      let h : EachYes own = each-yes own both-numbered (a .1) in
-      (a .0, h .0, h .1 .0, a .2)
+      let a = all-passed m f ((6, six) ∷ []) [] refl z in
+      let h : EachYes ((6, six) ∷ []) = each-yes ((6, six) ∷ []) refl (a .1) in
+      (a .0, h .0)
+
+  -- one question more of the call's own, number k + 1, and then those of the set
+  module _ (k : ℕ) (x : Bool) (ofSet : List Question) where
+    abbrev refusal : ℕ
+    refusal = callRefusal m f ((6, six) ∷ (suc k, x) ∷ []) ofSet
+
+    abbrev rest : List Question
+    rest = (suc k, x) ∷ ofSet
+
+    staged : refusal ≡ firstNo ((ofFile m f ++ ((6, six) ∷ [])) ++ rest)
+    unfolding callRefusal
+    staged = ap firstNo (sym (append-assoc (ofFile m f) ((6, six) ∷ []) rest))
+
+    all-numbered : numbered (ofFile m f ++ ((6, six) ∷ [])) ≡ true
+    unfolding numbered ofFile ofRecords
+    all-numbered = refl
+
+    pub by-settings : (settings ≡ 0 → ⊥) → refusal ≡ settings
+    unfolding settingsRefusal callRefusal
+    by-settings o = staged ∙ stage-no (ofFile m f ++ ((6, six) ∷ [])) rest all-numbered o
+
+    after-settings : settings ≡ 0 → refusal ≡ firstNo rest
+    unfolding settingsRefusal callRefusal
+    after-settings z = staged ∙ stage-yes (ofFile m f ++ ((6, six) ∷ [])) rest all-numbered z
+
+    pub no-own : settings ≡ 0 → x ≡ false → refusal ≡ suc k
+    unfolding firstNo
+    no-own z e = after-settings z ∙ rw e
+
+    pub to-set : settings ≡ 0 → x ≡ true → refusal ≡ firstNo ofSet
+    unfolding firstNo
+    to-set z e = after-settings z ∙ rw e
+
+    pub call-so : refusal ≡ 0 → (settings ≡ 0) × (x ≡ true) × (firstNo ofSet ≡ 0)
+    unfolding settingsRefusal callRefusal firstNo
+    call-so z =
+        let a = stages-so (ofFile m f ++ ((6, six) ∷ [])) rest all-numbered (sym staged ∙ z) in
+        by-test x (λ e. (a .0, e, rw e at (a .1))) (λ e. absurd (let n : suc k ≡ 0 = rw e at (a .1) in omega arith))
 
 -- ---- the forecast
 pub forecast-refusal : (m : ℕ) (f : List ℕ) (method basis room : ℕ) {a : ForecastAnswer} → a ≡ forecastAnswer m f method basis room → a .refusal ≡ forecastRefusal m f method basis room

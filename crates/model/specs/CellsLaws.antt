@@ -1,8 +1,9 @@
--- Laws of Cells: where a cell stands in the output. Assumes nothing.
+-- Laws of Cells: how many entries there are, and where a cell stands in the output. Assumes
+-- nothing.
 use mathlib.Core.Path.{_≡_, _∙_}
 use mathlib.Core.List.{List}
 use Prim.Native.Nat.{ℕ, _+_, _-_, _*_, _/_, _%_, _≤_, _<_}
-use native.Mathlib.Nat.{mul-assoc}
+use native.Mathlib.Nat.{mul-assoc, mul-le-mul}
 use native.Mathlib.Omega.{arith}
 use lib.Arith.{digits-div, digits-mod, digits-lt}
 use lib.IntN.{ℤ, pos}
@@ -11,6 +12,10 @@ use Rattle.model.specs.Lists.{at}
 use Rattle.model.specs.ListsLaws.{length-tabulate, getD-tabulate}
 use Rattle.model.specs.Cells.{placeOf, size, rbns, ibnr, entry, entries, outputFrom}
 use Rattle.model.specs.declared.TriangleSet.{TriangleSet}
+
+-- 1560 entries are room for every m
+pub size-most : (m : ℕ) → m ≤ 20 → size m ≤ 1560
+size-most m h = let a : 2 * m ≤ 40 = omega arith in let b : 2 * m - 1 ≤ 39 = omega arith in mul-le-mul a b
 
 -- an entry as it is written
 pub written : (m : ℕ) (s : TriangleSet) (p : List ℤ) (method basis : ℕ) (before : List ℤ) (e : ℕ) → e < size m → at (outputFrom m s p method basis before) e ≡ entry m s p method basis e

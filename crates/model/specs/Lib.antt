@@ -1,4 +1,5 @@
--- The definitions of document 01, a file for each of its sections, in its order.
+-- The definitions of document 01, a file for each of its sections, in its order; Page is of
+-- document 02.
 pub mod Lists
 pub mod ListsLaws
 pub mod Overlay
@@ -14,6 +15,7 @@ pub mod CellsLaws
 pub mod PaidReserve
 pub mod Calendar
 pub mod CalendarLaws
+pub mod Page
 pub mod ClaimCosts
 pub mod BackTest
 pub mod Questions
@@ -26,3 +28,4 @@ pub mod Agreement
 pub mod Examples
 pub mod Further
 pub mod FurtherCalls
+pub mod PageExamples

@@ -74,6 +74,10 @@ q7 m room = leb (size m) room
 unfoldable pub q7Writer : ℕ → Bool → ℕ → Bool
 q7Writer m hasIncurred room = leb (setLength m hasIncurred) room
 
+-- 15 (02, Job 1), in place of 7 for the closing page: it has room for 136 × m bytes
+unfoldable pub q15 : ℕ → ℕ → Bool
+q15 m room = leb (136 * m) room
+
 -- 8, of a back-test: the cut c is from 1 to m - 2
 unfoldable pub q8 : ℕ → ℕ → Bool
 q8 m c = leb 1 c && leb (c + 2) m

@@ -29,6 +29,7 @@ pub fn cases() -> Vec<Case> {
             cases.extend([0, 1].map(|basis| forecast(file, m, method, basis)));
         }
         cases.extend([claim_costs(file, m), respond(file, m)]);
+        cases.push(closing_page(file, m));
         if m > 2 {
             cases.extend([1, m / 2].map(|cut| back_test(file, m, cut)));
         }
@@ -230,6 +231,25 @@ fn respond(file: &[u8], m: usize) -> Case {
         },
         move || {
             black_box(expert::respond(black_box(input), &mut expert_out));
+        },
+    )
+}
+
+fn closing_page(file: &'static [u8], m: usize) -> Case {
+    let [mut page, mut plain_page, mut expert_page] = [[0; 2_720]; 3];
+    case(
+        "closing page 0 1",
+        m,
+        move || {
+            black_box(calls::closing_page(black_box(file), m, 0, 1, &mut page));
+        },
+        move || {
+            let file = black_box(file);
+            black_box(plain::closing_page(file, m, 0, 1, &mut plain_page)).ok();
+        },
+        move || {
+            let file = black_box(file);
+            black_box(expert::closing_page(file, m, 0, 1, &mut expert_page)).ok();
         },
     )
 }

@@ -9,6 +9,7 @@ const CASES: u64 = 3_000;
 
 type Answer<T> = Result<T, u64>;
 type Forecast = fn(&[u8], usize, u64, u64, &mut [i64]) -> Answer<[i64; 20]>;
+type ClosingPage = fn(&[u8], usize, u64, u64, &mut [u8]) -> Answer<()>;
 
 /// The calls of a peer.
 struct Peer {
@@ -21,6 +22,7 @@ struct Peer {
     claim_costs: fn(&[u8], usize) -> Answer<ClaimCosts>,
     back_test: fn(&[u8], usize, u64, u64, u64) -> Answer<BackTest>,
     respond: fn(&[u8], &mut [u8]) -> usize,
+    closing_page: ClosingPage,
 }
 
 const PEERS: [Peer; 2] = [
@@ -34,6 +36,7 @@ const PEERS: [Peer; 2] = [
         claim_costs: plain::claim_costs,
         back_test: plain::back_test,
         respond: plain::respond,
+        closing_page: plain::closing_page,
     },
     Peer {
         name: "expert",
@@ -51,6 +54,7 @@ const PEERS: [Peer; 2] = [
         claim_costs: expert::claim_costs,
         back_test: expert::back_test,
         respond: expert::respond,
+        closing_page: expert::closing_page,
     },
 ];
 
@@ -178,5 +182,22 @@ fn respond() {
         assert_eq!((peer.respond)(&input, &mut out), wanted.len(), "{text}");
         assert_eq!(out[..wanted.len()], wanted, "{text}");
         assert!(out[wanted.len()..].iter().all(|&byte| byte == 7), "{text}");
+    });
+}
+
+#[test]
+fn closing_page() {
+    each_case(|seed, case, peer, text| {
+        let (m, method, basis) = (case.m, case.method, case.basis);
+        let needed = 136 * m.clamp(1, 20) as usize;
+        for length in [needed - 1, needed + seed as usize % 3] {
+            let mut page = vec![7; length];
+            let found = (peer.closing_page)(&case.file, m as usize, method, basis, &mut page);
+            let wanted = reference::closing_page(&case.file, m, method, basis, length);
+            assert_eq!(found, wanted.as_ref().map(|_| ()).map_err(|&n| n), "{text}");
+            let wanted = wanted.unwrap_or_default();
+            assert_eq!(page[..wanted.len()], *wanted.as_bytes(), "{text}");
+            assert!(page[wanted.len()..].iter().all(|&byte| byte == 7), "{text}");
+        }
     });
 }

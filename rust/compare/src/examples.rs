@@ -7,6 +7,7 @@ use pardesul::calls;
 use reference::examples::{Answer, Call, Example, EDGES, EXAMPLES};
 use reference::forecast::entry_count;
 use reference::generate::{file, Case};
+use reference::page::page_length;
 use reference::{BackTest, Forecast, Shares};
 
 /// Compares every example, and says how many there are.
@@ -31,11 +32,13 @@ pub fn edges() -> Result<usize, Difference> {
     for (seed, edge) in (0..).zip(EDGES) {
         let set = edge.rows.set();
         for (method, refused) in (0..).zip(edge.refused) {
+            let text = || format!("method {method}, edge {seed}");
             let (mut out, mut leftovers) = (vec![0; entry_count(set.m)], [0; 20]);
             let refusal = calls::forecast(&file(&set), set.m, method, 0, &mut out, &mut leftovers);
-            same("edge, refusal", refusal, refused, || {
-                format!("method {method}, edge {seed}")
-            })?;
+            same("edge, refusal", refusal, refused, text)?;
+            let mut page = vec![0; page_length(set.m)];
+            let refusal = calls::closing_page(&file(&set), set.m, method, 0, &mut page);
+            same("edge, refusal of the page", refusal, refused, text)?;
             in_lent_memory(seed, case(set.m as u64, file(&set), method, 0, 1))?;
         }
     }

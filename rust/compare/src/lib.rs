@@ -15,7 +15,8 @@ pub use examples::{edges, examples};
 
 use std::collections::BTreeMap;
 
-/// How many cases each call accepted; of the answers to inputs, how many were each of the texts.
+/// How many cases each call accepted; of the answers to inputs, how many were each of the texts; of
+/// closing pages, how many cases each method and basis accepted and each refusal met.
 pub type Accepted = BTreeMap<&'static str, u64>;
 
 /// A comparison of one or several calls on the case of a seed.
@@ -66,6 +67,16 @@ impl Comparison {
 /// Compares `respond` on any input; the seed chooses the memory that is lent.
 pub fn respond(seed: u64, input: &[u8]) -> Result<(), Difference> {
     respond::compare(seed, input, &mut Accepted::new()).map(|_| ())
+}
+
+/// Compares `closing_page` on any file, any m, method and basis, and a page of any length.
+pub fn closing_page(
+    seed: u64,
+    file: &[u8],
+    settings: [u64; 3],
+    page_len: usize,
+) -> Result<(), Difference> {
+    files::closing_page(seed, file, settings, page_len).map(|_| ())
 }
 
 /// Compares `read_set` on any file and m.

@@ -33,13 +33,33 @@ fn files() {
         ("claim costs", 1_500, 700),
         ("forecast", 800, 900),
         ("back-test", 500, 900),
+        ("page of method 0, basis 0", 1_500, 700),
+        ("page of method 0, basis 1", 1_500, 700),
+        ("page of method 1, basis 0", 800, 1_500),
+        ("page of method 1, basis 1", 800, 1_500),
+        ("page of method 2, basis 0", 800, 1_500),
+        ("page of method 2, basis 1", 800, 1_500),
+        ("page refused 1", 20, 0),
+        ("page refused 2", 20, 0),
+        ("page refused 3", 20, 0),
+        ("page refused 4", 20, 0),
+        ("page refused 5", 20, 0),
+        ("page refused 6", 500, 0),
+        ("page refused 9", 20, 0),
+        ("page refused 10", 20, 0),
+        ("page refused 11", 20, 0),
+        ("page refused 12", 20, 0),
+        ("page refused 13", 100, 0),
+        ("page refused 14", 50, 0),
+        ("page refused 15", 2_000, 500),
     ];
     the_same("files", &calls);
 }
 
 #[test]
 fn damaged_files() {
-    the_same("damaged files", &[("read", 200, 2_000)]);
+    let calls = [("read", 200, 2_000), ("page refused 15", 200, 2_000)];
+    the_same("damaged files", &calls);
 }
 
 #[test]

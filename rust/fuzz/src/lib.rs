@@ -1,6 +1,7 @@
-//! Coverage-guided fuzzing with libFuzzer: each input is put to the library and to the independent
-//! calculation of `reference`, and the answers and the lent memory are compared bit for bit. New
-//! coverage is that of the calculation and of the library's own machine code.
+//! Coverage-guided fuzzing of `respond`, `read_set` and `closing_page` with libFuzzer: each input
+//! is put to the library and to the independent calculation of `reference`, and the answers and the
+//! lent memory are compared bit for bit. New coverage is that of the calculation and of the
+//! library's own machine code.
 
 pub mod blocks;
 mod guarded;
@@ -31,6 +32,26 @@ pub struct Target {
 /// The number of years and the file of an example of document 01.
 pub fn any_example(random: &mut Random) -> (u64, Vec<u8>) {
     EXAMPLES[random.below(EXAMPLES.len())].file()
+}
+
+/// A number of years, mostly a small one, and now and then one that no set has.
+pub fn any_m(random: &mut Random) -> u64 {
+    random.pick(&[
+        2,
+        2,
+        2,
+        3,
+        3,
+        4,
+        5,
+        20,
+        21,
+        1,
+        0,
+        258,
+        2 + (1 << 32),
+        u64::MAX,
+    ])
 }
 
 /// Compares the answer to one input, which lies at an end of memory that can be read; panics where

@@ -69,6 +69,15 @@ mod foreign {
             yearwise: *mut u64,
             overall: *mut u64,
         ) -> u64;
+        pub fn pardesul_closing_page(
+            file: *const u8,
+            file_len: usize,
+            m: usize,
+            method: u64,
+            basis: u64,
+            page: *mut u8,
+            page_len: usize,
+        ) -> u64;
         pub fn pardesul_tally_add(
             rbns: *mut [i64; 38],
             ibnr: *mut [i64; 38],
@@ -272,6 +281,36 @@ pub fn back_test(
     unsafe {
         foreign::pardesul_back_test(
             at, len, m, method, basis, c, cells, cellwise, yearwise, overall,
+        )
+    }
+}
+
+/// The closing page: 136 × m bytes at the front of `page`, where those past them stay. They are 2m
+/// lines of 67 characters and a newline, each a 4-wide year and three 21-wide amounts.
+///
+/// ```
+/// use pardesul::calls::{closing_page, write_set};
+///
+/// let (mut file, mut page) = ([0; 96], [9; 273]);
+/// assert_eq!(write_set(2, false, &[1; 400], &[1; 400], &[0; 400], &mut file), 0);
+/// assert_eq!(closing_page(&file, 2, 0, 1, &mut page[..271]), 15);
+/// assert_eq!(page, [9; 273]);
+/// assert_eq!(closing_page(&file, 2, 0, 1, &mut page), 0);
+/// assert_eq!(&page[..25], b"YEAR                 RBNS");
+/// assert_eq!(page[271..], [b'\n', 9]);
+/// ```
+pub fn closing_page(file: &[u8], m: usize, method: u64, basis: u64, page: &mut [u8]) -> u64 {
+    let (len, room) = (file.len(), page.len());
+    // SAFETY: as above.
+    unsafe {
+        foreign::pardesul_closing_page(
+            file.as_ptr(),
+            len,
+            m,
+            method,
+            basis,
+            page.as_mut_ptr(),
+            room,
         )
     }
 }

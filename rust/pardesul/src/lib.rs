@@ -39,9 +39,9 @@
 //! # Ok::<(), pardesul::Refusal>(())
 //! ```
 //!
-//! The other calls are [`shares`], [`delays`], [`claim_costs`], [`back_test`], [`Tally::add`] and
-//! [`respond`], the text of the program `closing`. [`calls`] has the calls themselves, over memory
-//! that the caller lends.
+//! The other calls are [`shares`], [`delays`], [`claim_costs`], [`back_test`], [`Tally::add`],
+//! [`closing_page`], the forecast in columns, and [`respond`], the text of the program `closing`.
+//! [`calls`] has the calls themselves, over memory that the caller lends.
 //!
 //! The crate links `target/staticlib/libc_api.a` of its repository, which `rt staticlib c_api`
 //! writes.
@@ -53,6 +53,7 @@ pub mod calls;
 mod claim_costs;
 mod closing;
 mod forecast;
+mod page;
 mod refusal;
 mod shares;
 mod tally;
@@ -62,6 +63,7 @@ pub use back_test::{back_test, BackTest};
 pub use claim_costs::{claim_costs, ClaimCosts, Inflation};
 pub use closing::respond;
 pub use forecast::{forecast, Basis, Forecast, Method};
+pub use page::closing_page;
 pub use refusal::Refusal;
 pub use shares::{delays, shares, Shares};
 pub use tally::Tally;

@@ -5,7 +5,7 @@ use std::fmt;
 
 /// What is wrong where question n gets a no, at place n - 1. The header and README.md say the same,
 /// which a test holds.
-const MESSAGES: [&str; 14] = [
+const MESSAGES: [&str; 15] = [
     "m is not 2 to 20",
     "the length is not that of a set",
     "a record has a kind that the length does not allow, a cell outside the triangle, or a byte \
@@ -22,6 +22,7 @@ const MESSAGES: [&str; 14] = [
     "an incurred A(j) or B(j) is not above zero, a latest incurred row sum is negative, or an \
      incurred g(j) is outside 10^6 to 4 × 10^9",
     "a row base is outside -2 × 10^14 to 2 × 10^14",
+    "the page is shorter than 136 × m bytes",
 ];
 
 /// The first question that got a no: its number and what is wrong.
@@ -54,7 +55,7 @@ impl Refusal {
         }
     }
 
-    /// The question's number, 1 to 14.
+    /// The question's number, 1 to 15.
     pub fn number(self) -> u64 {
         self.0
     }

@@ -1,6 +1,7 @@
 //! An independent big-number calculation of document 01: a module for each of its sections, with
-//! its letters. Every quantity is a whole number of any size, rounded only where the document
-//! rounds, so that nothing here depends on how large the numbers get.
+//! its letters, and one for the closing page of document 02. Every quantity is a whole number of
+//! any size, rounded only where the document rounds, so that nothing here depends on how large the
+//! numbers get.
 
 pub mod back_test;
 pub mod big;
@@ -11,6 +12,7 @@ pub mod examples;
 pub mod forecast;
 pub mod fraction;
 pub mod generate;
+pub mod page;
 pub mod paid_reserve;
 pub mod records;
 pub mod rounding;
@@ -24,6 +26,7 @@ pub use calendar::{closing, Tally};
 pub use claim_costs::{claim_costs, ClaimCosts, Inflation};
 pub use delays::delays;
 pub use forecast::{forecast, Forecast};
+pub use page::closing_page;
 pub use paid_reserve::{demand3, ReserveDistance};
 pub use records::{read_set, write_set, Refusal, Set};
 pub use shares::{shares, Shares};

@@ -2,6 +2,7 @@
 
 use reference::examples::{set, set_k, set_k_without_incurred, EDGES};
 use reference::generate::file;
+use reference::page::page_length;
 use reference::*;
 
 fn dcl(file: &[u8], m: u64) -> Result<Forecast, Refusal> {
@@ -18,10 +19,12 @@ fn of_file(file: &[u8], m: u64) -> [Option<Refusal>; 4] {
     ]
 }
 
-/// Refused with this number by every call that takes a file.
+/// Refused with this number by every call that takes a file, however short an output or a page is.
 fn refused_by_all(file: &[u8], m: u64, refusal: Refusal) {
     assert_eq!(of_file(file, m), [Some(refusal); 4]);
     assert_eq!(dcl(file, m), Err(refusal));
+    assert_eq!(forecast(file, m, 0, 1, 0), Err(refusal));
+    assert_eq!(closing_page(file, m, 0, 1, 0), Err(refusal));
     assert_eq!(back_test(file, m, 1, 0, 1), Err(refusal));
     assert_eq!(demand3(file, m).err(), Some(refusal));
 }
@@ -135,10 +138,12 @@ fn question_6() {
     let (long, short) = (file(&set_k()), file(&set_k_without_incurred()));
     for (method, basis) in [(3, 1), (0, 2), (256, 0), (u64::MAX, 0), (0, u64::MAX)] {
         assert_eq!(forecast(&long, 2, method, basis, 12), Err(6));
+        assert_eq!(closing_page(&long, 2, method, basis, 0), Err(6));
         assert_eq!(back_test(&long, 2, 1, method, basis), Err(6));
     }
     for method in [1, 2] {
         assert_eq!(forecast(&short, 2, method, 1, 0), Err(6));
+        assert_eq!(closing_page(&short, 2, method, 1, 0), Err(6));
         assert!(forecast(&long, 2, method, 1, 12).is_ok());
     }
     let mut damaged = short.clone();
@@ -167,7 +172,26 @@ fn question_8() {
     assert_eq!(back_test(&file(&three), 3, 1, 0, 1), Err(9));
 }
 
-/// Questions 9 to 11, which the forecast, shares, delays and claim costs take.
+/// A page takes 15 in place of 7, before 9 on.
+#[test]
+fn question_15() {
+    let k = file(&set_k());
+    for length in [0, 1, 136, 271] {
+        assert_eq!(closing_page(&k, 2, 0, 1, length), Err(15));
+    }
+    for length in [272, 273, usize::MAX] {
+        assert!(closing_page(&k, 2, 0, 1, length).is_ok());
+    }
+}
+
+/// Refused with this number by the page, and with 15 where it is a byte too short; 0 is "accepted".
+fn refused_by_page(set: &Set, method: u64, refusal: Refusal) {
+    let page = |length| closing_page(&file(set), set.m as u64, method, 0, length).err();
+    assert_eq!(page(page_length(set.m)).unwrap_or(0), refusal);
+    assert_eq!(page(page_length(set.m) - 1), Some(15));
+}
+
+/// Questions 9 to 11, which the forecast, shares, delays, claim costs and the page take.
 fn unfit(set: &Set, refusal: Refusal) {
     let file = file(set);
     let m = set.m as u64;
@@ -176,6 +200,7 @@ fn unfit(set: &Set, refusal: Refusal) {
         [None, Some(refusal), Some(refusal), Some(refusal)]
     );
     assert_eq!(dcl(&file, m), Err(refusal));
+    refused_by_page(set, 0, refusal);
 }
 
 #[test]
@@ -224,6 +249,9 @@ fn refused_by_methods(set: &Set, refusals: [Refusal; 3]) {
     let of_method = |method| forecast(&file(set), set.m as u64, method, 0, 2_000);
     let found = [0, 1, 2].map(|method| of_method(method).err().unwrap_or(0));
     assert_eq!(found, refusals);
+    for (method, refusal) in (0..).zip(refusals) {
+        refused_by_page(set, method, refusal);
+    }
 }
 
 #[test]

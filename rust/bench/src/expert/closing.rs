@@ -4,6 +4,9 @@ use super::cells::each_year;
 use super::records::fill;
 use crate::plain::{first_line, question_6, Set};
 
+/// RBNS and IBNR of each calendar year, that of year t at place t - 1.
+pub type Years = [(i64, i64); 38];
+
 /// A text of at most so many bytes as the longest has.
 struct Text {
     bytes: [u8; 2_573],
@@ -44,26 +47,31 @@ impl Text {
     }
 }
 
-fn push_lines(input: &[u8], text: &mut Text) -> Result<(), u64> {
-    let ([m, method, basis], file) = first_line(input).ok_or(1u64)?;
-    let mut set = Set::zero();
-    fill(file, m as usize, &mut set)?;
-    question_6(&set, method, basis)?;
-    let m = set.m;
-    let mut years = [(0, 0); 38];
+/// Questions 9 to 14, and the sums of each calendar year, where zeros stood.
+pub fn add_up(set: &Set, method: u64, basis: u64, years: &mut Years) -> Result<(), u64> {
+    let end = 2 * set.m - 1;
     each_year(
-        &set,
-        m,
+        set,
+        set.m,
         [method, basis],
-        |_| 2 * m - 1,
+        |_| end,
         |_, cells| {
             for (year, (rbns, ibnr)) in years.iter_mut().zip(cells.iter()) {
                 *year = (year.0 + rbns, year.1 + ibnr);
             }
         },
     )?;
-    let mut totals = (0, 0);
-    for (&(rbns, ibnr), t) in years[..2 * m - 2].iter().zip(1..) {
+    Ok(())
+}
+
+fn push_lines(input: &[u8], text: &mut Text) -> Result<(), u64> {
+    let ([m, method, basis], file) = first_line(input).ok_or(1u64)?;
+    let mut set = Set::zero();
+    fill(file, m as usize, &mut set)?;
+    question_6(&set, method, basis)?;
+    let (mut years, mut totals) = ([(0, 0); 38], (0, 0));
+    add_up(&set, method, basis, &mut years)?;
+    for (&(rbns, ibnr), t) in years[..2 * set.m - 2].iter().zip(1..) {
         totals = (totals.0 + rbns, totals.1 + ibnr);
         text.push_number(t);
         text.push_amounts(rbns, ibnr);

@@ -1,6 +1,6 @@
-//! Document 01 as an expert's safe Rust: one pass over the file, lists filled in place, sums that
-//! are carried on, 64 bits wherever the ranges allow, nothing allocated. It asks the same questions
-//! in the same order as the plain one, with the same types.
+//! The same as an expert's safe Rust: one pass over the file, lists filled in place, sums that are
+//! carried on, 64 bits wherever the ranges allow, nothing allocated. It asks the same questions in
+//! the same order as the plain one, with the same types.
 
 mod back_test;
 mod cells;
@@ -8,6 +8,7 @@ mod claim_costs;
 mod closing;
 mod delays;
 mod forecast;
+mod page;
 mod records;
 mod row_bases;
 mod shares;
@@ -17,6 +18,7 @@ pub use claim_costs::claim_costs;
 pub use closing::respond;
 pub use delays::delays;
 pub use forecast::forecast;
+pub use page::closing_page;
 pub use records::{read_set, write_set};
 pub use shares::shares;
 

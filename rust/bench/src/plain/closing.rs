@@ -19,6 +19,20 @@ pub fn first_line(input: &[u8]) -> Option<([u64; 3], &[u8])> {
     Some((numbers, rest))
 }
 
+/// RBNS and IBNR of each calendar year, that of year t at place t - 1.
+pub fn calendar_years(m: usize, entries: &[i64]) -> [[i128; 2]; 38] {
+    let mut years = [[0; 2]; 38];
+    for i in 1..=m {
+        for j in m - i + 1..=2 * m - 2 {
+            let at = 2 * ((i - 1) * (2 * m - 1) + j);
+            let year = &mut years[i + j - m - 1];
+            year[0] += i128::from(entries[at]);
+            year[1] += i128::from(entries[at + 1]);
+        }
+    }
+    years
+}
+
 fn line(text: &mut String, name: &str, [rbns, ibnr]: [i128; 2]) {
     writeln!(text, "{name} {rbns} {ibnr} {}", rbns + ibnr).expect("a string takes all");
 }
@@ -28,15 +42,7 @@ fn lines(input: &[u8]) -> Result<String, u64> {
     let m = m as usize;
     let mut out = [0; 1_560];
     forecast(file, m, method, basis, &mut out)?;
-    let mut years = [[0; 2]; 38];
-    for i in 1..=m {
-        for j in m - i + 1..=2 * m - 2 {
-            let at = 2 * ((i - 1) * (2 * m - 1) + j);
-            let year = &mut years[i + j - m - 1];
-            year[0] += i128::from(out[at]);
-            year[1] += i128::from(out[at + 1]);
-        }
-    }
+    let years = calendar_years(m, &out);
     let (mut text, mut totals) = (String::new(), [0; 2]);
     for t in 1..=2 * m - 2 {
         let [rbns, ibnr] = years[t - 1];

@@ -4,9 +4,11 @@ mod back_test;
 mod claim_costs;
 mod delays;
 mod forecast;
+mod page;
 mod reader;
 mod shares;
 
+pub use page::compare_file as closing_page;
 pub use reader::compare_file as read_set;
 
 use crate::difference::{hexadecimal, same, Difference};
@@ -31,7 +33,7 @@ pub fn compare(seed: u64, case: &Case, accepted: &mut Accepted) -> Result<(), Di
     for (name, call) in CALLS {
         *accepted.entry(name).or_default() += u64::from(call(seed, case)?);
     }
-    Ok(())
+    page::compare(seed, case, accepted)
 }
 
 /// Every call on the seed's case.

@@ -2,7 +2,7 @@
 #![no_main]
 
 use compare::Difference;
-use fuzz::{any_example, fuzz, Target};
+use fuzz::{any_example, any_m, fuzz, Target};
 use reference::generate::{case, Random};
 
 const READ_SET: Target = Target {
@@ -30,23 +30,4 @@ fn generate(seed: u64) -> Vec<u8> {
         (case.m, case.file)
     };
     [&m.to_le_bytes()[..], &file].concat()
-}
-
-fn any_m(random: &mut Random) -> u64 {
-    random.pick(&[
-        2,
-        2,
-        2,
-        3,
-        3,
-        4,
-        5,
-        20,
-        21,
-        1,
-        0,
-        258,
-        2 + (1 << 32),
-        u64::MAX,
-    ])
 }

@@ -284,6 +284,41 @@ static void back_test(void) {
          "the cells compared, and the errors");
 }
 
+static void closing_page(void) {
+  uint8_t page[PARDESUL_PAGE_LENGTH(2) + 1];
+  const size_t length = PARDESUL_PAGE_LENGTH(2);
+  const char *printed = "YEAR                 RBNS                 IBNR                TOTAL\n"
+                        "   1                  338                  165                  503\n"
+                        "   2                    0                   69                   69\n"
+                        " ALL                  338                  234                  572\n",
+             *totals = " ALL                -8000                -3750               -11750\n";
+  set_file two = file_of(2, counts_k, paid_k, NULL), wide = widest(), refused = too_wide();
+  memset(page, BEFORE, sizeof page);
+  expect(length == 272 && strlen(printed) == length, "the length of a page");
+  expect(pardesul_closing_page(two.bytes, two.length, 2, PARDESUL_METHOD_DCL,
+                               PARDESUL_BASIS_ESTIMATED, page, length - 1) == PARDESUL_REFUSED_PAGE,
+         "a page that is too short");
+  expect(pardesul_closing_page(refused.bytes, refused.length, 2, PARDESUL_METHOD_DCL,
+                               PARDESUL_BASIS_ESTIMATED, page, 0) == PARDESUL_REFUSED_PAGE,
+         "a page of no bytes, before the delays are looked at");
+  expect(pardesul_closing_page(two.bytes, two.length, 2, PARDESUL_METHOD_BDCL,
+                               PARDESUL_BASIS_ESTIMATED, page, 0) == PARDESUL_REFUSED_METHOD,
+         "BDCL without incurred, before the page is looked at");
+  expect(pardesul_closing_page(refused.bytes, refused.length, 2, PARDESUL_METHOD_DCL,
+                               PARDESUL_BASIS_ESTIMATED, page, length) == PARDESUL_REFUSED_DELAY,
+         "the page of paid 751, 249");
+  expect(untouched(page, sizeof page), "what a refused page leaves");
+  expect(pardesul_closing_page(two.bytes, two.length, 2, PARDESUL_METHOD_DCL,
+                               PARDESUL_BASIS_ESTIMATED, page, sizeof page) == PARDESUL_ACCEPTED &&
+             memcmp(page, printed, length) == 0,
+         "the page");
+  expect(untouched(page + length, sizeof page - length), "the byte past the page");
+  expect(pardesul_closing_page(wide.bytes, wide.length, 2, PARDESUL_METHOD_DCL,
+                               PARDESUL_BASIS_ESTIMATED, page, length) == PARDESUL_ACCEPTED &&
+             memcmp(page + length - strlen(totals), totals, strlen(totals)) == 0,
+         "a page with negative amounts");
+}
+
 static void tally(void) {
   int64_t rbns[PARDESUL_YEARS] = {0}, ibnr[PARDESUL_YEARS] = {0}, before[PARDESUL_YEARS];
   pardesul_tally_add(rbns, ibnr, 1, 63, 0);
@@ -329,6 +364,7 @@ int main(void) {
   claim_costs();
   forecast();
   back_test();
+  closing_page();
   tally();
   respond();
   return 0;

@@ -8,7 +8,7 @@ use denote.Ref.{now}
 use lib.ListN.{length}
 use Rattle.model.specs.Calendar.{firstLine}
 use Rattle.model.specs.declared.FirstLine.the-variants.{Asked}
-use Rattle.calendar.specs.TallyTextLaws.{refusal-short}
+use Rattle.text.specs.TallyTextLaws.{refusal-short}
 use Rattle.calendar.specs.Respond.{file-part, file-inside, asked-text, wrong-text}
 use borrow.Author.Needs.{needs}
 use Rattle.calendar.proofs.closing.answer.Statement.{statement}

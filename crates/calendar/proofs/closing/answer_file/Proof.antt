@@ -9,12 +9,12 @@ use denote.Ref.{now}
 use lib.IntN.{ℤ}
 use Rattle.model.specs.Cells.{size}
 use Rattle.model.specs.Calendar.{tallyOf, tallyText}
-use Rattle.model.specs.Calls.{zeros, forecastRefusal, forecastOutput, fileText}
+use Rattle.model.specs.Calls.{zeros, forecastRefusal, forecastOutput, fileTally, fileText}
 use Rattle.model.specs.CallsLaws.{forecast-refusal}
 use Rattle.forecast.specs.SmallEntries.{file-small}
-use Rattle.calendar.specs.YearSums.{Small}
-use Rattle.calendar.specs.Printable.{Printable, small-printable}
-use Rattle.calendar.specs.TallyTextLaws.{tally-text-length, refusal-short}
+use Rattle.tally.specs.YearSums.{Small}
+use Rattle.tally.specs.Printable.{Printable, small-printable}
+use Rattle.text.specs.TallyTextLaws.{tally-text-length, refusal-short}
 use Rattle.calendar.specs.Respond.{text-refused, text-accepted}
 use borrow.Author.Needs.{needs}
 use Rattle.calendar.proofs.closing.answer_file.Statement.{statement}
@@ -47,6 +47,7 @@ module _ (c : tie.After-forecast-into) (z : c .forecast-into .result ≡ 0) wher
   printable = small-printable m (out c) (small .1) (small .3)
 
   text-is : fileText m (now (start c .args .file)) (start c .args .method) (start c .args .basis) ≡ tallyText m (tallyOf m (out c))
+  unfolding fileTally
   text-is = text-accepted m (now (start c .args .file)) (start c .args .method) (start c .args .basis) (sym (refusal-is c) ∙ z) ∙ ap (λ (out : List ℤ). tallyText m (tallyOf m out)) (sym (output-is c))
 
 write-refusal-requires : tie.Need-write-refusal-requires

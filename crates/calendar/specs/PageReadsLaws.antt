@@ -16,7 +16,7 @@ use Rattle.model.specs.Tests.{by-test}
 use Rattle.model.specs.Calendar.{digits, amount, valueFrom, line, lines, allLines, tallyText}
 use Rattle.model.specs.Page.{aligned, columns, heading, pageLine, pageText}
 use Rattle.model.specs.Examples.{printed}
-use Rattle.model.specs.PageExamples.{first, pageK}
+use Rattle.model.specs.PageExamples.{printedHeading, pageK}
 use Rattle.model.specs.declared.Tally.{Tally}
 use Rattle.text.specs.Bytes.{All, none, more, other, all-append, all-same, all-pass}
 use Rattle.text.specs.Runs.{isDigit}
@@ -24,15 +24,15 @@ use Rattle.text.specs.ReadBack.{digits-are}
 use Rattle.text.specs.Digits.{value-digits}
 use Rattle.text.specs.Amount.{amountValue, amount-back}
 use Rattle.tally.specs.Printable.{Printable}
-use Rattle.text.specs.PageLaws.{Amounts, narrow, aligned-length, page-line-length, page-lines-length, year-width, year-amounts, total-amounts, page-length}
-use Rattle.calendar.specs.PageReads.{field, trimmed, lineOf, word, part, until, past, SameAmount, SameLine, PageReads}
-use Rattle.calendar.specs.ReadingLaws.{until-at, past-at, until-end, Lines, IsLine, lines-none, lines-one, lines-append, LineAt, line-read, line-below, field-is, trimmed-aligned}
+use Rattle.text.specs.PageLaws.{LineFits, narrow, aligned-length, page-line-length, page-lines-length, year-width, year-amounts, total-amounts, page-length}
+use Rattle.calendar.specs.PageReads.{fieldAt, trimmed, lineOf, word, part, until, past, SameAmount, SameLine, PageReads}
+use Rattle.calendar.specs.ReadingLaws.{until-at, past-at, until-end, Lines, IsLine, no-lines, one-line, more-lines, LineAt, line-read, line-below, field-is, trimmed-aligned}
 
 -- set K's text and page (model, Examples and PageExamples): word 2 of line 1 is 69, and the RBNS of
 -- line 1 is 338
-pub example : (word printed 1 2 ≡ 54 ∷ 57 ∷ []) × (trimmed (field pageK 1 4 21) ≡ 51 ∷ 51 ∷ 56 ∷ [])
-unfolding part until past field trimmed printed pageK first
-example = (refl, refl)
+pub reading-example : (word printed 1 2 ≡ 54 ∷ 57 ∷ []) × (trimmed (fieldAt pageK 1 4 21) ≡ 51 ∷ 51 ∷ 56 ∷ [])
+unfolding part until past fieldAt trimmed printed pageK printedHeading
+reading-example = (refl, refl)
 
 -- ---- bytes that digits and amounts do not have
 
@@ -111,7 +111,7 @@ module _ (year a b c : List ℕ) where
     y-long : length (aligned 4 year) ≡ 4
     y-long = aligned-length 4 year ly
 
-    year-field : field page l 0 4 ≡ aligned 4 year
+    year-field : fieldAt page l 0 4 ≡ aligned 4 year
     unfolding columns
     year-field = field-is here high [] (aligned 4 year) (aligned 21 a ++ aligned 21 b ++ aligned 21 c ++ (10 ∷ []) ++ post) (simp append-assoc) refl y-long
 
@@ -119,7 +119,7 @@ module _ (year a b c : List ℕ) where
       a-long : length (aligned 21 a) ≡ 21
       a-long = aligned-length 21 a la
 
-      first-field : field page l 4 21 ≡ aligned 21 a
+      first-field : fieldAt page l 4 21 ≡ aligned 21 a
       unfolding columns
       first-field = field-is here high (aligned 4 year) (aligned 21 a) (aligned 21 b ++ aligned 21 c ++ (10 ∷ []) ++ post) (simp append-assoc) y-long a-long
 
@@ -127,13 +127,13 @@ module _ (year a b c : List ℕ) where
         b-long : length (aligned 21 b) ≡ 21
         b-long = aligned-length 21 b lb
 
-        second-field : field page l 25 21 ≡ aligned 21 b
+        second-field : fieldAt page l 25 21 ≡ aligned 21 b
         unfolding columns
         second-field =
             field-is here high (aligned 4 year ++ aligned 21 a) (aligned 21 b) (aligned 21 c ++ (10 ∷ []) ++ post) (simp append-assoc)
             (simp length-append (omega (arith, y-long, a-long))) b-long
 
-        third-field : length c ≤ 21 → field page l 46 21 ≡ aligned 21 c
+        third-field : length c ≤ 21 → fieldAt page l 46 21 ≡ aligned 21 c
         unfolding columns
         third-field lc =
             field-is here high (aligned 4 year ++ aligned 21 a ++ aligned 21 b) (aligned 21 c) ((10 ∷ []) ++ post) (simp append-assoc)
@@ -147,12 +147,12 @@ pub record Name (s : List ℕ) : Type 0 where
   pub no-space : All (other 32) s
   pub no-newline : All (other 10) s
 
-same-amount : {page text : List ℕ} {k column n : ℕ} {z : ℤ} → field page (suc k) column 21 ≡ aligned 21 (amount z) → word text k n ≡ amount z → length (amount z) ≤ 21 → SameAmount page text k column n z
+same-amount : {page text : List ℕ} {k column n : ℕ} {z : ℤ} → fieldAt page (suc k) column 21 ≡ aligned 21 (amount z) → word text k n ≡ amount z → length (amount z) ≤ 21 → SameAmount page text k column n z
 same-amount {z = z} f w h =
     let t = ap trimmed f ∙ trimmed-aligned 21 (amount-free 32 refl refl z) in
     record { right = f ∙ ap (aligned 21) (sym w); same = t ∙ sym w; reads = ap amountValue t ∙ amount-back z; narrow = rw w h }
 
-module _ {page text above below : List ℕ} {k : ℕ} {x y : ℤ} {mine theirs : List ℕ} (a : Name mine) (b : Name theirs) (fit : Amounts x y)
+module _ {page text above below : List ℕ} {k : ℕ} {x y : ℤ} {mine theirs : List ℕ} (a : Name mine) (b : Name theirs) (fit : LineFits x y)
     (here : LineAt page above (suc k) (pageLine mine x y)) (high : length above ≡ 68 * suc k) (there : LineAt text below k (line theirs x y)) where
   nx : length (amount x) ≤ 21
   nx = narrow x (fit .first)
@@ -171,7 +171,7 @@ module _ {page text above below : List ℕ} {k : ℕ} {x y : ℤ} {mine theirs :
   unfolding text-line
   line-is = line-read there (text-line theirs x y (b .no-newline))
 
-  name-field : field page (suc k) 0 4 ≡ aligned 4 mine
+  name-field : fieldAt page (suc k) 0 4 ≡ aligned 4 mine
   name-field = year-field mine (amount x) (amount y) (amount (x +ℤ y)) in-columns high (a .short)
 
   name-word : word text k 0 ≡ theirs
@@ -204,8 +204,8 @@ module _ (layout : List ℕ → ℤ → ℤ → List ℕ) (t : Tally) where
 
   lines-are : (n : ℕ) → ((k : ℕ) → k < n → IsLine (year k)) → Lines n (lines layout t n)
   unfolding lines
-  lines-are zero each = lines-none
-  lines-are (suc n) each = rw (add-one n) at (lines-append n 1 (lines layout t n) (year n) (lines-are n (λ k h. each k (omega arith))) (lines-one (each n (omega arith))))
+  lines-are zero each = no-lines
+  lines-are (suc n) each = rw (add-one n) at (more-lines n 1 (lines layout t n) (year n) (lines-are n (λ k h. each k (omega arith))) (one-line (each n (omega arith))))
 
   module _ (all : List ℕ) (m : ℕ) (each : (k : ℕ) → k < 2 * m - 2 → IsLine (year k)) where
     year-at : (k : ℕ) → k < 2 * m - 2 → LineAt (allLines layout all m t) (lines layout t k) k (year k)
@@ -257,7 +257,7 @@ record Whole (page : List ℕ) (l : ℕ) : Type 0 where
   ended : IsLine s
   long : length s ≡ 68
 
-whole-line : {page : List ℕ} {l : ℕ} → Whole page l → (length (lineOf page l) ≡ 67) × (field page l 0 68 ≡ lineOf page l ++ (10 ∷ []))
+whole-line : {page : List ℕ} {l : ℕ} → Whole page l → (length (lineOf page l) ≡ 67) × (fieldAt page l 0 68 ≡ lineOf page l ++ (10 ∷ []))
 whole-line {page} {l} w =
     let i = w .ended in
     let e : lineOf page l ≡ i .body = line-read (w .here) i in
@@ -300,7 +300,7 @@ module _ (m : ℕ) (t : Tally) (least : 2 ≤ m) (few : m ≤ 20) (p : Printable
 
   head-at : LineAt page [] 0 heading
   unfolding pageText
-  head-at = record { post = allLines pageLine ALL m t; is = refl; above = lines-none }
+  head-at = record { post = allLines pageLine ALL m t; is = refl; above = no-lines }
 
   page-year-at : (k : ℕ) → k < 2 * m - 2 → LineAt page (heading ++ lines pageLine t k) (suc k) (pageLine (digits (suc k)) (at (t .rbns) k) (at (t .ibnr) k))
   unfolding pageText

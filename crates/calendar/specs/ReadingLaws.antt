@@ -10,7 +10,7 @@ use lib.ListN.{length, take, drop, replicate}
 use lib.Seq.{take-at, drop-at, drop-append-add}
 use Rattle.model.specs.Page.{aligned}
 use Rattle.text.specs.Bytes.{All, none, more, other}
-use Rattle.calendar.specs.PageReads.{field, trimmed, until, past, part, lineOf}
+use Rattle.calendar.specs.PageReads.{fieldAt, trimmed, until, past, part, lineOf}
 
 -- ---- laws of parts
 
@@ -42,18 +42,18 @@ pub record IsLine (s : List ℕ) : Type 0 where
   pub is : s ≡ body ++ (10 ∷ [])
   pub free : All (other 10) body
 
-pub lines-none : Lines 0 []
-lines-none rest k = rw (zero-add k)
+pub no-lines : Lines 0 []
+no-lines rest k = rw (zero-add k)
 
-pub lines-one : {s : List ℕ} → IsLine s → Lines 1 s
+pub one-line : {s : List ℕ} → IsLine s → Lines 1 s
 unfolding part
-lines-one {s} l rest k =
+one-line {s} l rest k =
     let a : 1 + k ≡ suc k = omega arith in
     let b : s ++ rest ≡ l .body ++ 10 ∷ rest = ap (λ (x : List ℕ). x ++ rest) (l .is) ∙ append-assoc (l .body) (10 ∷ []) rest in
     rw (a, b) (ap (λ (x : List ℕ). part 10 x k) (past-at 10 (l .free) rest))
 
-pub lines-append : (a b : ℕ) (s t : List ℕ) → Lines a s → Lines b t → Lines (a + b) (s ++ t)
-lines-append a b s t f g rest k = rw (append-assoc s t rest, add-assoc a b k) (f (t ++ rest) (b + k) ∙ g rest k)
+pub more-lines : (a b : ℕ) (s t : List ℕ) → Lines a s → Lines b t → Lines (a + b) (s ++ t)
+more-lines a b s t f g rest k = rw (append-assoc s t rest, add-assoc a b k) (f (t ++ rest) (b + k) ∙ g rest k)
 
 -- line l of a text is s, below pre
 pub record LineAt (text pre : List ℕ) (l : ℕ) (s : List ℕ) : Type 0 where
@@ -75,15 +75,15 @@ line-below {text} {pre} {s} {h} {l} i at =
     record {
       post = at .post;
       is = ap (λ (x : List ℕ). h ++ x) (at .is) ∙ sym (append-assoc h pre (s ++ at .post));
-      above = rw e at (lines-append 1 l h pre (lines-one i) (at .above));
+      above = rw e at (more-lines 1 l h pre (one-line i) (at .above));
     }
 
 -- ---- fields
 
 -- a field of a line whose lines above it have 68 bytes each: the stretch q of the line
 pub field-is : {page pre s : List ℕ} {l : ℕ} (here : LineAt page pre l s) → length pre ≡ 68 * l → (p q r : List ℕ) → s ++ here .post ≡ p ++ (q ++ r)
-    → {c w : ℕ} → length p ≡ c → length q ≡ w → field page l c w ≡ q
-unfolding field
+    → {c w : ℕ} → length p ≡ c → length q ≡ w → fieldAt page l c w ≡ q
+unfolding fieldAt
 field-is {page} {pre} {s} {l} here high p q r e {c} {w} d f =
     ap (λ (x : List ℕ). take w (drop (68 * l + c) x)) (here .is)
     ∙ ap (λ (n : ℕ). take w (drop (n + c) (pre ++ (s ++ here .post)))) (sym high)

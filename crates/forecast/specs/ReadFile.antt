@@ -12,11 +12,11 @@ use Rattle.forecast.specs.SetForecast.{InRange}
 use Rattle.forecast.specs.SetForecastLaws.{in-range}
 
 -- n is the first no; where there is none, the lent list holds the file's set
-pub record Readied (m : ℕ) (f : List ℕ) (method basis n : ℕ) (set : List ℤ) : Type 0 where
+pub record ReadToForecast (m : ℕ) (f : List ℕ) (method basis n : ℕ) (set : List ℤ) : Type 0 where
   pub refusal : n ≡ settingsRefusal m f method basis
   pub holds : n ≡ 0 → lentSet (hasIncurred m f) set ≡ setOf m f
 
-module _ {m : ℕ} {f : List ℕ} {method basis n : ℕ} {set : List ℤ} (read : Readied m f method basis n set) (z : n ≡ 0) where
+module _ {m : ℕ} {f : List ℕ} {method basis n : ℕ} {set : List ℤ} (read : ReadToForecast m f method basis n set) (z : n ≡ 0) where
   pub passed-settings : settingsRefusal m f method basis ≡ 0
   passed-settings = sym (read .refusal) ∙ z
 

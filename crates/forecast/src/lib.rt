@@ -9,7 +9,7 @@ ghost use Rattle.model.specs.Questions.{q6};
 ghost use Rattle.model.specs.Records.{setOf};
 ghost use Rattle.model.specs.PaidReserve.{NearReserves};
 ghost use Rattle.model.specs.Calls.{ifAccepted, forecastAnswer, forecastOutput, Forecasted};
-ghost use Rattle.forecast.specs.ReadFile.{Readied};
+ghost use Rattle.forecast.specs.ReadFile.{ReadToForecast};
 ghost use lib.IntN.{pos};
 ghost use lib.ListN.{length, replicate};
 
@@ -39,7 +39,7 @@ pub fn read_to_forecast(
     set: &mut [i64; 1200],
 ) -> u64
     requires { ⌜ now set ≡ replicate 1200 (pos 0) ⌝ }
-    ensures { λ r. ⌜ Readied m (now (file .entry)) method basis r (now (set .exit)) ⌝ }
+    ensures { λ r. ⌜ ReadToForecast m (now (file .entry)) method basis r (now (set .exit)) ⌝ }
 {
     let refusal = triangles::read_cells(file, m, set);
     if refusal != 0 {

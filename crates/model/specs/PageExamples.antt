@@ -18,15 +18,15 @@ after n word = replicate n 32 ++ word
 abbrev newline : List ℕ
 newline = 10 ∷ []
 
--- the first line of every page
-unfoldable pub first : List ℕ
-first = (89 ∷ 69 ∷ 65 ∷ 82 ∷ []) ++ after 17 (82 ∷ 66 ∷ 78 ∷ 83 ∷ []) ++ after 17 (73 ∷ 66 ∷ 78 ∷ 82 ∷ []) ++ after 16 (84 ∷ 79 ∷ 84 ∷ 65 ∷ 76 ∷ []) ++ newline
+-- the printedHeading line of every page
+unfoldable pub printedHeading : List ℕ
+printedHeading = (89 ∷ 69 ∷ 65 ∷ 82 ∷ []) ++ after 17 (82 ∷ 66 ∷ 78 ∷ 83 ∷ []) ++ after 17 (73 ∷ 66 ∷ 78 ∷ 82 ∷ []) ++ after 16 (84 ∷ 79 ∷ 84 ∷ 65 ∷ 76 ∷ []) ++ newline
 
 -- K's page under DCL, basis 1: the lines of 1, 338, 165, 503; of 2, 0, 69, 69; of ALL, 338, 234,
 -- 572
 unfoldable pub pageK : List ℕ
 pageK =
-    first
+    printedHeading
     ++ after 3 (49 ∷ []) ++ after 18 (51 ∷ 51 ∷ 56 ∷ []) ++ after 18 (49 ∷ 54 ∷ 53 ∷ []) ++ after 18 (53 ∷ 48 ∷ 51 ∷ []) ++ newline
     ++ after 3 (50 ∷ []) ++ after 20 (48 ∷ []) ++ after 19 (54 ∷ 57 ∷ []) ++ after 19 (54 ∷ 57 ∷ []) ++ newline
     ++ after 1 (65 ∷ 76 ∷ 76 ∷ []) ++ after 18 (51 ∷ 51 ∷ 56 ∷ []) ++ after 18 (50 ∷ 51 ∷ 52 ∷ []) ++ after 18 (53 ∷ 55 ∷ 50 ∷ []) ++ newline
@@ -38,14 +38,14 @@ lateFile = two 0 25 75 50 ++ two 1 750 250 750
 -- its page: the lines of 1, -8000, 2250, -5750; of 2, 0, -6000, -6000; of ALL, -8000, -3750, -11750
 unfoldable pub pageLate : List ℕ
 pageLate =
-    first
+    printedHeading
     ++ after 3 (49 ∷ []) ++ after 16 (45 ∷ 56 ∷ 48 ∷ 48 ∷ 48 ∷ []) ++ after 17 (50 ∷ 50 ∷ 53 ∷ 48 ∷ []) ++ after 16 (45 ∷ 53 ∷ 55 ∷ 53 ∷ 48 ∷ []) ++ newline
     ++ after 3 (50 ∷ []) ++ after 20 (48 ∷ []) ++ after 16 (45 ∷ 54 ∷ 48 ∷ 48 ∷ 48 ∷ []) ++ after 16 (45 ∷ 54 ∷ 48 ∷ 48 ∷ 48 ∷ []) ++ newline
     ++ after 1 (65 ∷ 76 ∷ 76 ∷ []) ++ after 16 (45 ∷ 56 ∷ 48 ∷ 48 ∷ 48 ∷ []) ++ after 16 (45 ∷ 51 ∷ 55 ∷ 53 ∷ 48 ∷ []) ++ after 15 (45 ∷ 49 ∷ 49 ∷ 55 ∷ 53 ∷ 48 ∷ []) ++ newline
 
 unfoldable pub opened-page : ℕ
 unfolding
-    opened-further aligned columns heading pageLine pageText q15 pageRefusal filePage pageOutput first pageK lateFile pageLate
+    opened-further aligned columns heading pageLine pageText q15 pageRefusal filePage pageOutput printedHeading pageK lateFile pageLate
 opened-page = 0
 
 -- into just the room that a page needs, and into two bytes more, which stay

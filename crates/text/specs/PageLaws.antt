@@ -46,7 +46,7 @@ unfolding aligned
 aligned-length width s h = length-append (replicate (width - length s) 32) s ∙ rw (length-replicate {A = ℕ} (width - length s) 32) (omega arith)
 
 -- three amounts that fit 64 bits
-pub record Amounts (x y : ℤ) : Type 0 where
+pub record LineFits (x y : ℤ) : Type 0 where
   pub first : fits64 x ≡ true
   pub second : fits64 y ≡ true
   pub both : fits64 (x +ℤ y) ≡ true
@@ -55,20 +55,20 @@ pub record Amounts (x y : ℤ) : Type 0 where
 pub narrow : (z : ℤ) → fits64 z ≡ true → length (amount z) ≤ 21
 narrow z e = omega (arith, amount-length z e)
 
-pub amounts-length : {x y : ℤ} → Amounts x y → length (amounts x y) ≡ 64
+pub amounts-length : {x y : ℤ} → LineFits x y → length (amounts x y) ≡ 64
 unfolding amounts
 amounts-length {x} {y} a =
     simp length-append
     (omega (arith, aligned-length 21 (amount x) (narrow x (a .first)), aligned-length 21 (amount y) (narrow y (a .second)), aligned-length 21 (amount (x +ℤ y)) (narrow (x +ℤ y) (a .both))))
 
-pub page-line-length : (name : List ℕ) {x y : ℤ} → length name ≤ 4 → Amounts x y → length (pageLine name x y) ≡ 68
+pub page-line-length : (name : List ℕ) {x y : ℤ} → length name ≤ 4 → LineFits x y → length (pageLine name x y) ≡ 68
 page-line-length name {x} {y} h a =
     ap length (page-line-is name x y) ∙ length-append (aligned 4 name) (amounts x y) ∙ omega (arith, aligned-length 4 name h, amounts-length a)
 
 pub year-width : (year : ℕ) → year ≤ 38 → length (digits year) ≤ 4
 year-width year h = omega (arith, digits-length 1 year (omega arith))
 
-pub page-lines-length : (t : Tally) (n : ℕ) → n ≤ 38 → ((k : ℕ) → k < n → Amounts (at (t .rbns) k) (at (t .ibnr) k)) → length (lines pageLine t n) ≡ 68 * n
+pub page-lines-length : (t : Tally) (n : ℕ) → n ≤ 38 → ((k : ℕ) → k < n → LineFits (at (t .rbns) k) (at (t .ibnr) k)) → length (lines pageLine t n) ≡ 68 * n
 page-lines-length t zero h fit = rw (lines-none pageLine t) (omega arith)
 page-lines-length t (suc n) h fit =
     rw (sym (add-one n))
@@ -82,10 +82,10 @@ page-lines-length t (suc n) h fit =
 -- ---- of a tally whose numbers fit
 
 module _ (m : ℕ) (t : Tally) (least : 2 ≤ m) (few : m ≤ 20) (p : Printable m t) where
-  pub year-amounts : (k : ℕ) → k < 2 * m - 2 → Amounts (at (t .rbns) k) (at (t .ibnr) k)
+  pub year-amounts : (k : ℕ) → k < 2 * m - 2 → LineFits (at (t .rbns) k) (at (t .ibnr) k)
   year-amounts k h = record { first = p .first k h; second = p .second k h; both = p .both k h }
 
-  pub total-amounts : Amounts (sum (2 * m - 2) (at (t .rbns))) (sum (2 * m - 2) (at (t .ibnr)))
+  pub total-amounts : LineFits (sum (2 * m - 2) (at (t .rbns))) (sum (2 * m - 2) (at (t .ibnr)))
   total-amounts = record { first = p .first-total (2 * m - 2) (omega arith); second = p .second-total (2 * m - 2) (omega arith); both = p .total }
 
   pub page-length : length (pageText m t) ≡ 136 * m

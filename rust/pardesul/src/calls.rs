@@ -285,8 +285,8 @@ pub fn back_test(
     }
 }
 
-/// The closing page: 136 × m bytes at the front of `page`, where those past them stay. They are 2m
-/// lines of 67 characters and a newline, each a 4-wide year and three 21-wide amounts.
+/// The closing page: 136 × m bytes at the front of `page`, where those past them stay. A line has
+/// the year in 4 bytes, RBNS, IBNR and their sum in 21 each, and a newline.
 ///
 /// ```
 /// use pardesul::calls::{closing_page, write_set};

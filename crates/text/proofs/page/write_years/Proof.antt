@@ -17,7 +17,7 @@ use Rattle.model.specs.declared.Tally.{Tally}
 use Rattle.text.specs.Written.{Written, written-none, written-then, written-length}
 use Rattle.tally.specs.YearSums.{tallyIn}
 use Rattle.text.specs.TallyTextLaws.{lines-none}
-use Rattle.text.specs.PageLaws.{Amounts, page-next, aligned-length, amounts-length, year-width}
+use Rattle.text.specs.PageLaws.{LineFits, page-next, aligned-length, amounts-length, year-width}
 use Rattle.text.proofs.page.write_years.Statement.{statement}
 use Rattle.text.proofs.page.write_years.Tie as tie
 
@@ -59,7 +59,7 @@ year-end w = let i = w .before .before .before .before in omega (arith, year w .
 fit : (w : tie.After-write-aligned Inv-loop μ-loop)
     → (let l = w .before .before .before .before .before in
     let t = tally (l .before .before) in
-    Amounts (at (t .rbns) (l .loop .k)) (at (t .ibnr) (l .loop .k)))
+    LineFits (at (t .rbns) (l .loop .k)) (at (t .ibnr) (l .loop .k)))
 fit w =
     let i = w .before .before .before .before in
     record {

@@ -32,8 +32,8 @@
 extern "C" {
 #endif
 
-/* The version, 1,000,000 x major + 1,000 x minor + patch: 0.2.0. */
-#define PARDESUL_VERSION 2000
+/* The version, 1,000,000 x major + 1,000 x minor + patch: 0.3.0. */
+#define PARDESUL_VERSION 3000
 
 /* The bytes of stack that are enough for each call, and for any of them: so many a thread has to
  * have free when it makes the call. No theorem says so: the most that a call takes was measured
@@ -156,8 +156,9 @@ uint64_t pardesul_read_set(const uint8_t *file, size_t file_length, size_t m, bo
 
 /* Writes a set's file, PARDESUL_FILE_LENGTH(m, has_incurred) bytes, to the front of out, which has
  * out_length bytes; those past the file stay. Only the set's cells are looked at: of incurred none
- * where has_incurred is false, but it is lent then too. The order of the records is the library's
- * own. Refuses with 1, 5 and 7. */
+ * where has_incurred is false, but it is lent then too. Records go by kind, then accident year,
+ * then delay, each ascending: sets of one m have the same file just where their cells are the same
+ * and both have incurred or neither. Refuses with 1, 5 and 7. */
 uint64_t pardesul_write_set(size_t m, bool has_incurred,
                             const int64_t counts[PARDESUL_LENT(PARDESUL_CELLS)],
                             const int64_t paid[PARDESUL_LENT(PARDESUL_CELLS)],

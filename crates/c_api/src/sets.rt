@@ -1,7 +1,8 @@
 // The reader and the writer of triangle sets.
 ghost use mathlib.Core.Path.{_≡_};
 ghost use mathlib.Core.Bool.{cond};
-ghost use Rattle.model.specs.Calls.{ifAccepted, readAnswer, Wrote};
+ghost use lib.ListN.{length};
+ghost use Rattle.model.specs.Calls.{ifAccepted, readAnswer, writeRefusal, writeOutput};
 
 // The reader: the set of a file goes to counts, paid and incurred, and has_incurred becomes 1 where
 // incurred is there, else 0.
@@ -32,7 +33,7 @@ pub extern "C" fn pardesul_read_set(
     0
 }
 
-// The writer: the set's records go to the front of the output, in an order of its own.
+// The writer: the set's file goes to the front of the output.
 #[no_mangle]
 pub extern "C" fn pardesul_write_set<'a>(
     m: usize,
@@ -42,8 +43,8 @@ pub extern "C" fn pardesul_write_set<'a>(
     incurred: &'a [i64; 400],
     out: &mut [u8],
 ) -> u64
-    ensures { λ r.
-        ⌜ Wrote m «has_incurred» (now (counts .entry)) (now (paid .entry)) (now (incurred .entry)) (now (out .entry)) (now (out .exit)) r ⌝ }
+    ensures { λ r. ⌜ r ≡ writeRefusal m «has_incurred» (now (counts .entry)) (now (paid .entry)) (now (incurred .entry)) (length (now (out .entry))) ⌝ }
+    ensures { λ _. ⌜ now (out .exit) ≡ writeOutput m «has_incurred» (now (counts .entry)) (now (paid .entry)) (now (incurred .entry)) (now (out .entry)) ⌝ }
 {
     triangles::write_lent(m, has_incurred, counts, paid, incurred, out)
 }

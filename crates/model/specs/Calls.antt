@@ -2,12 +2,13 @@
 -- memory holds afterwards.
 use Prim.Native.Nat.{ℕ, _-_, _*_, _≤_}
 use mathlib.Core.Path.{_≡_}
-use mathlib.Core.Bool.{Bool, true, false, cond}
+use mathlib.Core.Bool.{Bool, false, cond}
 use mathlib.Core.List.{List, [], _∷_, _++_}
 use lib.Dec.{eqb, leb}
 use lib.IntN.{ℤ, pos}
 use lib.ListN.{length, take, drop, replicate}
 use Rattle.model.specs.Records.{setOf, givenSet, setLength, hasIncurred}
+use Rattle.model.specs.SetFile.{fileOf}
 use Rattle.model.specs.Shares.{gList, bList, ultimates}
 use Rattle.model.specs.Delays.{delaysOf}
 use Rattle.model.specs.RowBases.{leftovers}
@@ -17,7 +18,7 @@ use Rattle.model.specs.Calendar.{tallyOf, tallyText, refusalText, firstL
 use Rattle.model.specs.Page.{pageText}
 use Rattle.model.specs.ClaimCosts.{claimCosts, noClaimCosts}
 use Rattle.model.specs.BackTest.{cutTo, gap, cellNumber, cellwise, yearwise, overall}
-use Rattle.model.specs.Questions.{Question, firstNo, ofFile, ofShares, ofDelays, ofForecast, q1, q4, q5Writer, q6, q7, q7Writer, q8, q15}
+use Rattle.model.specs.Questions.{Question, firstNo, ofFile, ofShares, ofDelays, ofForecast, q1, q5Writer, q6, q7, q7Writer, q8, q15}
 use Rattle.model.specs.declared.TriangleSet.{TriangleSet}
 use Rattle.model.specs.declared.ReadAnswer.{ReadAnswer}
 use Rattle.model.specs.declared.SharesAnswer.{SharesAnswer}
@@ -65,16 +66,11 @@ readAnswer m f = let n = readRefusal m f in ifAccepted n (acceptedRead (setOf m 
 unfoldable pub writeRefusal : ℕ → Bool → List ℤ → List ℤ → List ℤ → ℕ → ℕ
 writeRefusal m hasIncurred c d e room = firstNo ((1, q1 m) ∷ (5, q5Writer m hasIncurred c d e) ∷ (7, q7Writer m hasIncurred room) ∷ [])
 
--- The output before and after, and the refusal number n. The order of the records is free (01,
--- Triangle records); what holds of the bytes is named by the fields: each cell stands there once
--- and the bytes are the set's length, so nothing else does (once); they read back as the set
--- (written); the bytes past them are as before (kept).
-pub record Wrote (m : ℕ) (hasIncurred : Bool) (c d e : List ℤ) (before after : List ℕ) (n : ℕ) : Type 0 where
-  pub result : n ≡ writeRefusal m hasIncurred c d e (length before)
-  pub refused : (n ≡ 0 → ⊥) → after ≡ before
-  pub once : n ≡ 0 → (length (take (setLength m hasIncurred) after) ≡ setLength m hasIncurred) × (q4 m (take (setLength m hasIncurred) after) ≡ true)
-  pub written : n ≡ 0 → readAnswer m (take (setLength m hasIncurred) after) ≡ acceptedRead (givenSet m hasIncurred c d e)
-  pub kept : n ≡ 0 → drop (setLength m hasIncurred) after ≡ drop (setLength m hasIncurred) before
+-- the output afterwards: the set's file, and behind it what stood there; a refusal leaves it as it
+-- was
+unfoldable pub writeOutput : ℕ → Bool → List ℤ → List ℤ → List ℤ → List ℕ → List ℕ
+writeOutput m hasIncurred c d e before =
+    ifAccepted (writeRefusal m hasIncurred c d e (length before)) (fileOf m (givenSet m hasIncurred c d e) ++ drop (setLength m hasIncurred) before) before
 
 -- ---- shares and ultimates: questions 1 to 5 and 9 to 11
 

@@ -1,5 +1,5 @@
 -- 01, Examples: one table, held to the definitions of the calls by computation.
-use Prim.Native.Nat.{ℕ, zero, suc, _+_, _*_, _-_, _/_, _%_, _^_}
+use Prim.Native.Nat.{ℕ, _+_, _*_, _-_, _/_, _^_}
 use mathlib.Core.Path.{_≡_, refl}
 use mathlib.Core.Bool.{Bool, true, false, _&&_}
 use mathlib.Core.List.{List, [], _∷_, _++_}
@@ -19,6 +19,7 @@ use Rattle.model.specs.Cells.{sList, pairs, rbnsFrom, ibnrFrom, rbns, ib
 use Rattle.model.specs.Calendar.{fits64, tallyAdd, tallyTo, tallyOf, digitsIn, digits, amount, line, lines, allLines, tallyText, refusalText, front, valueFrom, runAt, third, second, first, firstLine, refusalOf}
 use Rattle.model.specs.BackTest.{cutTo, compared, gap, cellNumber, cellwise, yearGap, yearwise, overall}
 use Rattle.model.specs.Questions.{q1, q2, q3, q4, q5, q6, q7, q8, q9, q10, q11, q12, q13, q14, kinds, recordOk, eachCell, firstNo, ofRecords, ofFile, ofShares, ofDelays, ofMethod, ofForecast}
+use Rattle.model.specs.SetFile.{bytes, recordOf}
 use Rattle.model.specs.Calls.{callRefusal, readRefusal, sharesRefusal, sharesOf, sharesAnswer, delaysRefusal, delaysAnswer, forecastRefusal, forecastAnswer, forecastOutput, backTestRefusal, backTestOf, backTestAnswer, fileTally, fileText, closingOf, closingText}
 
 -- ---- the sets
@@ -27,19 +28,10 @@ use Rattle.model.specs.Calls.{callRefusal, readRefusal, sharesRefusal, s
 pub data Example : Type 0 where
   set : ℕ → List ℕ → Example
 
--- n bytes of a number, least byte first
-unfoldable pub bytes : ℕ → ℕ → List ℕ
-bytes zero x = []
-bytes (suc n) x = (x % 256) ∷ bytes n (x / 256)
-
--- the record of kind t, year i, delay j and value x
-unfoldable pub rec : ℕ → ℕ → ℕ → ℕ → List ℕ
-rec t i j x = t ∷ i ∷ j ∷ 0 ∷ 0 ∷ 0 ∷ 0 ∷ 0 ∷ bytes 8 x
-
 -- row i of kind t, from delay j on
 unfoldable pub rowOf : ℕ → ℕ → ℕ → List ℕ → List ℕ
 rowOf t i j [] = []
-rowOf t i j (x ∷ xs) = rec t i j x ++ rowOf t i (j + 1) xs
+rowOf t i j (x ∷ xs) = recordOf t i j x ++ rowOf t i (j + 1) xs
 
 -- the rows x, y / z of kind t, of a set with m = 2
 unfoldable pub two : ℕ → ℕ → ℕ → ℕ → List ℕ
@@ -228,7 +220,7 @@ unfolding
     cutTo compared gap cellNumber cellwise yearGap yearwise overall
     q1 q2 q3 q4 q5 q6 q7 q8 q9 q10 q11 q12 q13 q14 kinds recordOk eachCell firstNo ofRecords ofFile ofShares ofDelays ofMethod ofForecast
     callRefusal readRefusal sharesRefusal sharesOf sharesAnswer delaysRefusal delaysAnswer forecastRefusal forecastAnswer forecastOutput backTestRefusal backTestOf backTestAnswer fileTally fileText closingOf closingText
-    bytes rec rowOf two K late later thousand thousandLess past out figures answer answerOf above below halved right table others asked printed
+    bytes recordOf rowOf two K late later thousand thousandLess past out figures answer answerOf above below halved right table others asked printed
 opened = 0
 
 -- the definitions give every value of the table

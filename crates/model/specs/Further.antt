@@ -8,12 +8,16 @@ use lib.Dec.{T, eqb}
 use lib.IntN.{ℤ, pos, negsuc, negℤ, _*ℤ_}
 use lib.ListN.{take, replicate, set}
 use lib.Ieee.{fin, div, ofInt}
+use Rattle.model.specs.Lists.{chained}
 use Rattle.model.specs.Records.{givenSet, setOf}
+use Rattle.model.specs.Delays.{delaysOf}
 use Rattle.model.specs.PaidReserve.{Fraction, GDown, G, H, reserve, bound}
 use Rattle.model.specs.ClaimCosts.{quotient, meanCost, factor, inflation, claimCosts, noClaimCosts, yearInflation}
-use Rattle.model.specs.Questions.{q5Writer, q7Writer}
-use Rattle.model.specs.Calls.{acceptedRead, readAnswer, writeRefusal, forecastAnswer, forecastOutput, acceptedClaimCosts, claimCostsAnswer, closingText}
-use Rattle.model.specs.Examples.{rec, rowOf, two, same, figures, opened, asked}
+use Rattle.model.specs.Questions.{firstNo, ofForecast, q5Writer, q7Writer}
+use Rattle.model.specs.SetFile.{word, recordOf, ofKind, fileOf}
+use Rattle.model.specs.Calls.{acceptedRead, readAnswer, writeRefusal, writeOutput, forecastAnswer, forecastOutput, acceptedClaimCosts, claimCostsAnswer, closingText}
+use Rattle.model.specs.Examples.{rowOf, two, same, figures, opened, asked}
+use Rattle.model.specs.declared.TriangleSet.{TriangleSet}
 use Rattle.model.specs.declared.Inflation.the-variants.{BaseYear, NoPaymentsYet, Ratio}
 
 -- ---- the sets
@@ -84,13 +88,26 @@ refused f method n = eqb (forecastAnswer 2 f method 1 12 .refusal) n
 unfoldable pub leftOver3 : List ℕ → List ℤ → Bool
 leftOver3 f xs = sameList (take 3 (forecastAnswer 3 f 2 1 30 .leftovers)) xs
 
--- one count in each row, and paid x, y / z; with incurred
-unfoldable pub ones : ℕ → ℕ → ℕ → List ℕ
-ones x y z = two 0 1 0 1 ++ two 1 x y z
-
 -- -n
 abbrev pub less : ℕ → ℤ
 less n = negℤ (pos n)
+
+-- m = 2: the triangle x, y / z, and d in the places that are no cell
+abbrev pub lentCells : ℤ → ℤ → ℤ → ℤ → List ℤ
+lentCells d x y z = x ∷ y ∷ replicate 18 d ++ z ∷ replicate 379 d
+
+-- the first no of questions 9 to 14 to a set with one count in each row, paid x, y / z and incurred
+-- a, b / c
+unfoldable pub refusedSet : ℕ → ℕ → ℕ → ℤ → ℤ → ℤ → ℕ → ℕ → Bool
+refusedSet x y z a b c method n =
+    let s : TriangleSet =
+    record {
+      «has_incurred» = true;
+      counts = lentCells (pos 0) (pos 1) (pos 0) (pos 1);
+      paid = lentCells (pos 0) (pos x) (pos y) (pos z);
+      incurred = lentCells (pos 0) a b c;
+    } in
+    eqb (firstNo (ofForecast 2 s (delaysOf 2 s) method)) n
 
 -- every entry of a forecast, and one past them that keeps its value; leftovers by g = S, by no
 -- payments, and by a reserve that rounds away
@@ -116,31 +133,31 @@ forecasts =
 unfoldable pub refusals : List Bool
 refusals =
     -- 3: a kind that the length does not allow, year 0, a cell outside, a spare byte not zero
-    refused (rec 2 1 0 1 ++ rec 0 1 1 0 ++ rec 0 2 0 1 ++ two 1 1 0 1) 0 3 ∷ refused (rec 0 0 0 1 ++ rec 0 1 1 0 ++ rec 0 2 0 1 ++ two 1 1 0 1) 0 3
-    ∷ refused (rec 0 1 0 1 ++ rec 0 2 1 0 ++ rec 0 2 0 1 ++ two 1 1 0 1) 0 3 ∷ refused (set K 7 1) 0 3
+    refused (recordOf 2 1 0 1 ++ recordOf 0 1 1 0 ++ recordOf 0 2 0 1 ++ two 1 1 0 1) 0 3 ∷ refused (recordOf 0 0 0 1 ++ recordOf 0 1 1 0 ++ recordOf 0 2 0 1 ++ two 1 1 0 1) 0 3
+    ∷ refused (recordOf 0 1 0 1 ++ recordOf 0 2 1 0 ++ recordOf 0 2 0 1 ++ two 1 1 0 1) 0 3 ∷ refused (set K 7 1) 0 3
     -- 4: a cell twice and another missing; 5: a count of 10,000,001; 6: no incurred
-    ∷ refused (two 0 80 20 90 ++ rec 1 1 0 600 ++ rec 1 1 0 600 ++ rec 1 2 0 660) 0 4
+    ∷ refused (two 0 80 20 90 ++ recordOf 1 1 0 600 ++ recordOf 1 1 0 600 ++ recordOf 1 2 0 660) 0 4
     ∷ refused (two 0 80 20 10000001 ++ two 1 600 400 660) 0 5 ∷ refused (two 0 80 20 90 ++ two 1 600 400 660) 1 6
     -- 9: a row without counts; 10: no paid money in row 1
     ∷ refused (two 0 80 20 0 ++ two 1 600 400 660) 0 9 ∷ refused (two 0 80 20 90 ++ two 1 0 0 660) 0 10
     -- 13: A(1) = 0, B(1) = 0, a latest row sum below zero, g(0) = 999,001, g(0) = 5 × 10^9; not
     -- asked under method 0
-    ∷ refused (ones 1 0 1 ++ two 2 0 1 1) 1 13 ∷ refused (ones 1 0 1 ++ two 2 1 (minus 1) 1) 1 13 ∷ refused (ones 1 0 1 ++ two 2 1 0 (minus 1)) 1 13
-    ∷ refused (ones 1 0 1 ++ two 2 1 1000 1) 1 13 ∷ refused (ones 1 0 1 ++ two 2 5 (minus 4) 1) 1 13 ∷ refused (ones 1 0 1 ++ two 2 0 1 1) 0 0
+    ∷ refused (two 0 1 0 1 ++ two 1 1 0 1 ++ two 2 0 1 1) 1 13 ∷ refusedSet 1 0 1 (pos 1) (less 1) (pos 1) 1 13 ∷ refusedSet 1 0 1 (pos 1) (pos 0) (less 1) 1 13
+    ∷ refusedSet 1 0 1 (pos 1) (pos 1000) (pos 1) 1 13 ∷ refusedSet 1 0 1 (pos 5) (less 4) (pos 1) 1 13 ∷ refusedSet 1 0 1 (pos 0) (pos 1) (pos 1) 0 0
     -- passed: g(0) = 10^6, g(0) = 4 × 10^9, a latest row sum of zero
-    ∷ refused (ones 1 0 1 ++ two 2 1 999 1) 1 0 ∷ refused (ones 1 0 1 ++ two 2 4 (minus 3) 1) 1 0 ∷ refused (ones 1 0 1 ++ two 2 1 0 0) 1 0
+    ∷ refusedSet 1 0 1 (pos 1) (pos 999) (pos 1) 1 0 ∷ refusedSet 1 0 1 (pos 4) (less 3) (pos 1) 1 0 ∷ refusedSet 1 0 1 (pos 1) (pos 0) (pos 0) 1 0
     -- 14: V(2) = 20001 × 10^10 under BDCL, and -14142136 × 14142137 under IDCL; passed: 2 × 10^14,
     -- and -14142135 × 14142136
-    ∷ refused (ones 20001 0 1 ++ two 2 1 0 (10 ^ 10)) 1 14 ∷ refused (ones 14142136 1 14142136 ++ two 2 1 0 0) 2 14
-    ∷ refused (ones 20000 0 1 ++ two 2 1 0 (10 ^ 10)) 1 0 ∷ refused (ones 14142135 1 14142135 ++ two 2 1 0 0) 2 0
+    ∷ refusedSet 20001 0 1 (pos 1) (pos 0) (pos (10 ^ 10)) 1 14 ∷ refusedSet 14142136 1 14142136 (pos 1) (pos 0) (pos 0) 2 14
+    ∷ refusedSet 20000 0 1 (pos 1) (pos 0) (pos (10 ^ 10)) 1 0 ∷ refusedSet 14142135 1 14142135 (pos 1) (pos 0) (pos 0) 2 0
     ∷ []
 
 unfoldable pub opened-further : ℕ
 unfolding
-    opened K negative unpaid settled few four sameList sameFraction allTrue refused leftOver3 ones forecasts refusals
+    opened K negative unpaid settled few four sameList sameFraction allTrue refused leftOver3 refusedSet forecasts refusals
     GDown G H reserve bound
     quotient meanCost factor inflation claimCosts noClaimCosts claimCostsAnswer div ofInt
-    readAnswer writeRefusal q5Writer q7Writer
+    readAnswer writeRefusal writeOutput q5Writer q7Writer chained word ofKind fileOf
 opened-further = 0
 
 pub further-forecasts : T (allTrue forecasts)

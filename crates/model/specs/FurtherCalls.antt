@@ -8,11 +8,13 @@ use lib.Dec.{T}
 use lib.IntN.{ℤ, pos, negsuc}
 use lib.ListN.{take, replicate}
 use Rattle.model.specs.PaidReserve.{yearSum}
+use Rattle.model.specs.Records.{setOf}
 use Rattle.model.specs.Calendar.{tallyAdd}
 use Rattle.model.specs.Questions.{q1}
-use Rattle.model.specs.Calls.{readAnswer, writeRefusal, refusedRead, refusedForecast, forecastAnswer, forecastOutput, acceptedBackTest, refusedBackTest, backTestAnswer}
-use Rattle.model.specs.Examples.{rec, rowOf}
-use Rattle.model.specs.Further.{K, four, less, refused, opened-further}
+use Rattle.model.specs.SetFile.{word, recordOf, fileOf}
+use Rattle.model.specs.Calls.{readAnswer, writeRefusal, writeOutput, refusedRead, refusedForecast, forecastAnswer, forecastOutput, acceptedBackTest, refusedBackTest, backTestAnswer}
+use Rattle.model.specs.Examples.{rowOf, two}
+use Rattle.model.specs.Further.{K, negative, four, less, lentCells, refused, opened-further}
 use Rattle.model.specs.declared.Tally.{Tally}
 
 -- ---- the back-test
@@ -55,7 +57,7 @@ unfolding opened-further
 sizes = (refl, refl, refl, refl)
 
 -- a file of two records that m = 1 would have, and K with m = 21
-pub wrong-m : (readAnswer 1 (rec 0 1 0 1 ++ rec 1 1 0 1) ≡ refusedRead 1) × (readAnswer 21 K ≡ refusedRead 1)
+pub wrong-m : (readAnswer 1 (recordOf 0 1 0 1 ++ recordOf 1 1 0 1) ≡ refusedRead 1) × (readAnswer 21 K ≡ refusedRead 1)
 unfolding opened-further
 wrong-m = (refl, refl)
 
@@ -68,7 +70,7 @@ wrong-lengths = tt
 
 -- the triangle x, y / z of m = 2: other places hold a number that no value may be
 abbrev given : ℤ → ℤ → ℤ → List ℤ
-given x y z = x ∷ y ∷ replicate 18 (less (2 ^ 63)) ++ z ∷ replicate 379 (less (2 ^ 63))
+given x y z = lentCells (less (2 ^ 63)) x y z
 
 -- the writer's refusal of m and K's triangles, with x, y and z as the cells of year 2 and room for
 -- n bytes
@@ -96,6 +98,30 @@ unwritten-5 = (refl, refl, refl, refl)
 pub unwritten-7 : (wrote 2 true (pos 90) (pos 660) (pos 1080) 143 ≡ 7) × (wrote 2 false (pos 90) (pos 660) (pos 1080) 95 ≡ 7)
 unfolding opened-further
 unwritten-7 = (refl, refl)
+
+-- the output of K's triangles, of n bytes
+abbrev output : Bool → ℕ → List ℕ
+output there n = writeOutput 2 there (given (pos 80) (pos 20) (pos 90)) (given (pos 600) (pos 400) (pos 660)) (given (pos 900) (pos 100) (pos 1080)) (replicate n 7)
+
+-- 02, Job 2: by kind, year and delay, with incurred and without; the bytes past the file stay, and
+-- so do all where there is room for all but one
+pub outputs : (output true 146 ≡ K ++ (7 ∷ 7 ∷ [])) × (output false 96 ≡ two 0 80 20 90 ++ two 1 600 400 660) × (output true 143 ≡ replicate 143 7)
+unfolding opened-further
+outputs = (refl, refl, refl)
+
+-- a file of m = 3 in that order, and K's records in another one, read and written
+pub rewritten :
+    (fileOf 3 (setOf 3 negative) ≡ negative)
+    × (fileOf 2 (setOf 2 (two 2 900 100 1080 ++ recordOf 1 2 0 660 ++ recordOf 0 1 1 20 ++ recordOf 0 1 0 80 ++ recordOf 1 1 1 400 ++ recordOf 0 2 0 90 ++ recordOf 1 1 0 600)) ≡ K)
+unfolding opened-further
+rewritten = (refl, refl)
+
+-- byte by byte: incurred of -2 in year 1 at delay 1, and 10^10 paid in year 2
+pub record-bytes :
+    (recordOf 2 1 1 (word (less 2)) ≡ 2 ∷ 1 ∷ 1 ∷ 0 ∷ 0 ∷ 0 ∷ 0 ∷ 0 ∷ 254 ∷ 255 ∷ 255 ∷ 255 ∷ 255 ∷ 255 ∷ 255 ∷ 255 ∷ [])
+    × (recordOf 1 2 0 (word (pos (10 ^ 10))) ≡ 1 ∷ 2 ∷ 0 ∷ 0 ∷ 0 ∷ 0 ∷ 0 ∷ 0 ∷ 0 ∷ 228 ∷ 11 ∷ 84 ∷ 2 ∷ 0 ∷ 0 ∷ 0 ∷ [])
+unfolding opened-further
+record-bytes = (refl, refl)
 
 -- ---- the tally
 

@@ -1,5 +1,5 @@
--- The definitions of document 01, a file for each of its sections, in its order; Page is of
--- document 02.
+-- The definitions of document 01, a file for each of its sections, in its order; Page and SetFile
+-- are of document 02.
 pub mod Lists
 pub mod ListsLaws
 pub mod Overlay
@@ -20,6 +20,7 @@ pub mod ClaimCosts
 pub mod BackTest
 pub mod Questions
 pub mod QuestionsLaws
+pub mod SetFile
 pub mod Lengths
 pub mod Calls
 pub mod CallsLaws

@@ -11,7 +11,7 @@ use lib.Dec.{ltb}
 use lib.ListN.{length, getD, set, replicate}
 use lib.Seq.{ext-getD}
 use borrow.Author.Tests.{ltb-true, ltb-false, le-ltb, lt-ltb}
-use Rattle.model.specs.Lists.{tabulate, listed, every, total}
+use Rattle.model.specs.Lists.{tabulate, listed, chained, every, total}
 use Rattle.model.specs.Tests.{by-test}
 
 -- ---- lists made place by place
@@ -37,6 +37,11 @@ pub tabulate-ext : {A : Type 0} (n : ℕ) (f g : ℕ → A) → ((k : ℕ) → k
 unfolding tabulate
 tabulate-ext zero f g e = refl
 tabulate-ext (suc n) f g e = rw (e 0 (omega arith), tabulate-ext n (λ k. f (suc k)) (λ k. g (suc k)) (λ k h. e (suc k) (omega arith)))
+
+pub chained-ext : {A : Type 0} (n : ℕ) (f g : ℕ → List A) → ((k : ℕ) → k < n → f k ≡ g k) → chained n f ≡ chained n g
+unfolding chained
+chained-ext zero f g e = refl
+chained-ext (suc n) f g e = rw (chained-ext n f g (λ k h. e k (omega arith)), e n (omega arith))
 
 -- one element more, and a second list behind the first
 pub tabulate-last : {A : Type 0} (n : ℕ) (f : ℕ → A) → tabulate (n + 1) f ≡ tabulate n f ++ (f n ∷ [])

@@ -18,7 +18,7 @@ after n word = replicate n 32 ++ word
 abbrev newline : List ℕ
 newline = 10 ∷ []
 
--- the printedHeading line of every page
+-- the first line of every page
 unfoldable pub printedHeading : List ℕ
 printedHeading = (89 ∷ 69 ∷ 65 ∷ 82 ∷ []) ++ after 17 (82 ∷ 66 ∷ 78 ∷ 83 ∷ []) ++ after 17 (73 ∷ 66 ∷ 78 ∷ 82 ∷ []) ++ after 16 (84 ∷ 79 ∷ 84 ∷ 65 ∷ 76 ∷ []) ++ newline
 

@@ -8,7 +8,7 @@ use mathlib.Core.Logic.{⊎-elim}
 use mathlib.Core.List.{List}
 use lib.ListN.{length, length-append}
 use Rattle.model.specs.Overlay.{overlay, overlay-none, overlay-more}
-use Rattle.triangles.specs.Written.{chained}
+use Rattle.model.specs.Lists.{chained}
 
 -- out is d with f 0, .. f (n - 1) from place a on, and next the place after them
 pub record Filled (f : ℕ → List ℕ) (d : List ℕ) (a n : ℕ) (out : List ℕ) (next : ℕ) : Type 0 where

@@ -6,7 +6,9 @@ pub mod Order
 pub mod Places
 pub mod Keys
 pub mod LentLaws
+pub mod ReadCells
 pub mod Written
 pub mod WrittenLaws
 pub mod RoundTrip
+pub mod SameFile
 pub mod CallsOrder

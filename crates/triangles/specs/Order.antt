@@ -2,13 +2,14 @@
 -- 5, and every call's answer is made of these (01, Triangle records). Assumes nothing.
 use mathlib.Core.Path.{_≡_, refl, sym, _∙_, ap}
 use mathlib.Core.List.{List, List·Permᴰ}
-use Prim.Native.Nat.{ℕ, _/_, _%_, _+_}
+use Prim.Native.Nat.{ℕ}
 use lib.Dec.{eqb}
 use lib.IntN.{pos}
 use lib.ListN.{length}
 use Rattle.model.specs.Lists.{tabulate, count}
-use Rattle.model.specs.ListsLaws.{tabulate-ext, every-ext}
+use Rattle.model.specs.ListsLaws.{every-ext}
 use Rattle.model.specs.Records.{records, valueAt, copies, valueOf, hasIncurred, triangle, setOf}
+use Rattle.model.specs.RecordsLaws.{triangle-ext}
 use Rattle.model.specs.Questions.{q2, q3, q4, q5, kinds, eachCell, ofRecords, ofFile}
 use Rattle.model.specs.Calls.{readRefusal, readAnswer}
 use Rattle.triangles.specs.Folds.{Monoid, alls, totals, sums, fold-ext, fold-list, foldList, foldList-perm, every-fold, total-fold, sum-fold}
@@ -67,8 +68,7 @@ module _ (f g : List ℕ) (same : SameRecords f g) where
     q5-order = every-fold _ _ ∙ over-order alls ranged ranged-local ∙ sym (every-fold _ _)
 
     triangle-order : (t : ℕ) → triangle m (valueOf f t) ≡ triangle m (valueOf g t)
-    unfolding triangle
-    triangle-order t = tabulate-ext 400 _ _ (λ p h. rw (value-order t (p / 20 + 1) (p % 20)))
+    triangle-order t = triangle-ext m (valueOf f t) (valueOf g t) (λ i j l b. value-order t i j)
 
     -- questions 1 to 5 and their answers
     pub questions-order : ofFile m f ≡ ofFile m g

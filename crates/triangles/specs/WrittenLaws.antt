@@ -1,28 +1,28 @@
 -- Laws of Written: a record that is written is read back, and each cell of the set stands in one
 -- record. Assumes nothing.
-use Prim.Native.Nat.{ℕ, zero, suc, _+_, _-_, _*_, _/_, _%_, _^_, _<_, _≤_}
+use Prim.Native.Nat.{ℕ, zero, suc, _+_, _-_, _*_, _^_, _<_, _≤_}
 use native.Mathlib.Omega.{arith}
-use mathlib.Core.Path.{_≡_, refl, sym, ap, _∙_}
+use mathlib.Core.Path.{_≡_, refl, ap, _∙_}
 use mathlib.Core.Bool.{Bool, true, _&&_, cond, false≢true}
 use mathlib.Core.List.{List}
 use borrow.Author.Tests.{lt-ltb, le-ltb, leb-true, eq-eqb, eqb-true}
-use lib.ListN.{length, replicate, length-append, length-replicate, getD-replicate}
+use lib.ListN.{length, replicate, length-append}
 use lib.Dec.{ltb, eqb}
 use lib.IntN.{ℤ, pos, negsuc}
 use lib.Signed.{leZ}
 use mir.Syntax.{w64}
 use mir.Val.{SFits}
-use Rattle.model.specs.Lists.{every, total, count}
-use Rattle.model.specs.ListsLaws.{every-at, every-all, and-left, and-right, is-tabulate, tabulate-ext}
+use Rattle.model.specs.Lists.{chained, every, total, count}
+use Rattle.model.specs.ListsLaws.{every-at, every-all, and-left, and-right}
 use Rattle.model.specs.Records.{cell, sparesZero, valueAt, leastFirst, signed, records, isOf, copies, valueOf, triangle, inRange}
-use Rattle.model.specs.RecordsLaws.{inside-yes, inside-so}
+use Rattle.model.specs.RecordsLaws.{inside-yes, triangle-ext, triangle-zeros}
 use Rattle.model.specs.Questions.{q5, eachCell}
 use Rattle.model.specs.QuestionsLaws.{eachCell-all}
+use Rattle.model.specs.SetFile.{word, bytes, recordOf}
 use Rattle.model.specs.Tests.{by-test}
 use Rattle.triangles.specs.Folds.{Monoid, alls, totals, sums, fold, fold-unit, fold-pick, joined, every-fold, total-fold, sum-fold}
 use Rattle.triangles.specs.OneRecord.{Local, wellFormed, wellFormed-local, ranged, ranged-local, ofCell, ofCell-local, value-local, over, over-append}
-use Rattle.triangles.specs.Places.{insideAt}
-use Rattle.triangles.specs.Written.{bits, digits, chained, recordBytes, cellBytes, yearBytes, kindBytes}
+use Rattle.triangles.specs.Written.{cellBytes, yearBytes, kindBytes}
 
 -- ---- one record
 
@@ -37,32 +37,32 @@ range-fits t (negsuc n) e =
     let h = and-left (leZ (cond (ltb t 2) (pos 0) (negsuc (10 ^ 10 - 1))) (negsuc n)) _ e in
     by-test (ltb t 2) (λ y. absurd (false≢true (rw y at h))) (λ y. let l = leb-true n (10 ^ 10 - 1) (rw y at h) in record { sfits = omega arith })
 
-bits-small : (v : ℤ) → SFits w64 v → bits v < 2 ^ 64
-unfolding bits
-bits-small (pos n) s = let b = s .sfits in omega arith
-bits-small (negsuc n) s = let b = s .sfits in omega arith
+word-small : (v : ℤ) → SFits w64 v → word v < 2 ^ 64
+unfolding word
+word-small (pos n) s = let b = s .sfits in omega arith
+word-small (negsuc n) s = let b = s .sfits in omega arith
 
-bits-back : (v : ℤ) → SFits w64 v → signed (bits v) ≡ v
-unfolding bits signed
-bits-back (pos n) s = rw (lt-ltb n (2 ^ 63) (s .sfits))
-bits-back (negsuc n) s = let b = s .sfits in rw (le-ltb (2 ^ 64 - suc n) (2 ^ 63) (omega arith)) (ap negsuc (omega arith))
+word-back : (v : ℤ) → SFits w64 v → signed (word v) ≡ v
+unfolding word signed
+word-back (pos n) s = rw (lt-ltb n (2 ^ 63) (s .sfits))
+word-back (negsuc n) s = let b = s .sfits in rw (le-ltb (2 ^ 64 - suc n) (2 ^ 63) (omega arith)) (ap negsuc (omega arith))
 
 module _ (t i j : ℕ) where
-  digits-back : (x : ℕ) → x < 2 ^ 64 → leastFirst 8 (recordBytes t i j x) 8 ≡ x
-  unfolding recordBytes digits leastFirst
-  digits-back x h = omega arith
+  bytes-back : (x : ℕ) → x < 2 ^ 64 → leastFirst 8 (recordOf t i j x) 8 ≡ x
+  unfolding recordOf bytes leastFirst
+  bytes-back x h = omega arith
 
   module _ (v : ℤ) (ok : inRange t v ≡ true) where
-    value-back : valueAt (recordBytes t i j (bits v)) 0 ≡ v
+    value-back : valueAt (recordOf t i j (word v)) 0 ≡ v
     unfolding valueAt
-    value-back = let s = range-fits t v ok in ap signed (digits-back (bits v) (bits-small v s)) ∙ bits-back v s
+    value-back = let s = range-fits t v ok in ap signed (bytes-back (word v) (word-small v s)) ∙ word-back v s
 
-    ranged-back : ranged (recordBytes t i j (bits v)) 0 ≡ true
-    unfolding ranged recordBytes
+    ranged-back : ranged (recordOf t i j (word v)) 0 ≡ true
+    unfolding ranged recordOf
     ranged-back = ap (inRange t) value-back ∙ ok
 
-  well-back : (m u x : ℕ) → t < u → 1 ≤ i → i + j ≤ m → wellFormed m u (recordBytes t i j x) 0 ≡ true
-  unfolding wellFormed recordBytes sparesZero
+  well-back : (m u x : ℕ) → t < u → 1 ≤ i → i + j ≤ m → wellFormed m u (recordOf t i j x) 0 ≡ true
+  unfolding wellFormed recordOf sparesZero
   well-back m u x h y d = rw (lt-ltb t u h, inside-yes m i j y d)
 
 -- ---- records one after the other: how long they are, and a fold over them
@@ -83,9 +83,9 @@ module _ {A : Type 0} (M : Monoid A) (G : List ℕ → ℕ → A) (here : Local 
   over-chained f c g h e (suc n) =
       over-append M G here (chained n f) (f n) (total n c) (length-chained f c h n) ∙ joined M (over-chained f c g h e n) (e n)
 
-  over-one : (t i j x : ℕ) → over M G (recordBytes t i j x) ≡ G (recordBytes t i j x) 0
-  unfolding over fold recordBytes digits
-  over-one t i j x = M .left (G (recordBytes t i j x) 0)
+  over-one : (t i j x : ℕ) → over M G (recordOf t i j x) ≡ G (recordOf t i j x) 0
+  unfolding over fold recordOf bytes
+  over-one t i j x = M .left (G (recordOf t i j x) 0)
 
 -- the cells of year k + 1, and of a triangle
 abbrev inYear : ℕ → ℕ → ℕ
@@ -101,8 +101,8 @@ counted = refl
 pub in-kind : (m : ℕ) → m ≤ 20 → 2 * inKind m ≡ m * (m + 1)
 in-kind m h = eqb-true _ _ (every-at (λ k. eqb (2 * inKind k) (k * (k + 1))) 21 m counted (omega arith))
 
-pub length-record : (t i j x : ℕ) → length (recordBytes t i j x) ≡ 16
-unfolding recordBytes digits
+pub length-record : (t i j x : ℕ) → length (recordOf t i j x) ≡ 16
+unfolding recordOf bytes
 length-record t i j x = refl
 
 length-year : (m t : ℕ) (a : List ℤ) → Records (λ k. yearBytes t a (suc k) (m - k)) (inYear m)
@@ -153,7 +153,7 @@ module _ (m : ℕ) (s : ℕ → List ℤ) where
       G = ofCell (M .unit) W t i j
 
       other : (k y d : ℕ) → (k ≡ t → y ≡ i → d ≡ j → ⊥) → piece M G k y d ≡ M .unit
-      unfolding ofCell isOf recordBytes
+      unfolding ofCell isOf recordOf
       other k y d n =
           by-test (eqb k t && eqb y i && eqb d j)
           (λ e. let ki = and-left (eqb k t && eqb y i) (eqb d j) e in
@@ -161,7 +161,7 @@ module _ (m : ℕ) (s : ℕ → List ℤ) where
           (λ e. rw e)
 
       this : piece M G t i j ≡ W (cellBytes t (s t) i j) 0
-      unfolding ofCell isOf recordBytes
+      unfolding ofCell isOf recordOf
       this = rw (eq-eqb t t refl, eq-eqb i i refl, eq-eqb j j refl)
 
       local : Local G
@@ -188,22 +188,15 @@ module _ (m : ℕ) (s : ℕ → List ℤ) where
       value-held t i j k l b = sum-fold _ _ ∙ held sums valueAt value-local t i j k l b ∙ value-back t i j (cell (s t) i j) (ok t i j k l b)
 
       pub triangle-held : (t : ℕ) → t < u → triangle m (valueOf f t) ≡ triangle m (cell (s t))
-      unfolding triangle
-      triangle-held t k =
-          tabulate-ext 400 _ _
-          (λ p l. by-test (insideAt m p) (λ y. let b = inside-so m (p / 20 + 1) (p % 20) y in rw (y, value-held t (p / 20 + 1) (p % 20) k (b .0) (b .1))) (λ y. rw y))
+      triangle-held t k = triangle-ext m (valueOf f t) (cell (s t)) (λ i j. value-held t i j k)
 
       pub fifth : q5 m f ≡ true
       unfolding q5 over ranged
       fifth = every-fold _ _ ∙ all-hold ranged ranged-local (λ t i j k l b. ranged-back t i j (cell (s t) i j) (ok t i j k l b))
 
     pub triangle-none : (t : ℕ) → u ≤ t → triangle m (valueOf f t) ≡ replicate 400 (pos 0)
-    unfolding triangle valueOf over ofCell
-    triangle-none t h =
-        sym
-        (is-tabulate 400 _ (replicate 400 (pos 0)) (pos 0) (length-replicate 400 (pos 0))
-        (λ p l. getD-replicate 400 p (pos 0) (pos 0) l
-        ∙ by-test (insideAt m p) (λ y. rw y (sym (sum-fold _ _ ∙ not-held sums valueAt value-local t (p / 20 + 1) (p % 20) h))) (λ y. rw y)))
+    unfolding valueOf over ofCell
+    triangle-none t h = triangle-zeros m (valueOf f t) (λ i j. sum-fold _ _ ∙ not-held sums valueAt value-local t i j h)
 
     pub fourth : every u (λ t. eachCell m (λ i j. eqb (copies f t i j) 1)) ≡ true
     unfolding copies count over ofCell

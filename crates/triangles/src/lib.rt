@@ -1,4 +1,4 @@
-// The reader and the writer of triangle sets (01, Triangle records).
+// The reader and the writer of triangle sets (01, Triangle records; 02, Job 2).
 mod cells;
 mod fields;
 mod questions;
@@ -7,9 +7,9 @@ mod writer;
 ghost use mathlib.Core.Path.{_≡_};
 ghost use Prim.Native.Nat.{_≤_, _<_};
 ghost use lib.IntN.{pos};
-ghost use lib.ListN.{replicate};
+ghost use lib.ListN.{length, replicate};
 ghost use Rattle.model.specs.Records.{hasIncurred};
-ghost use Rattle.model.specs.Calls.{refusedRead, readAnswer, Wrote};
+ghost use Rattle.model.specs.Calls.{refusedRead, readAnswer, writeRefusal, writeOutput};
 ghost use Rattle.model.specs.Lent.{triangleIn, ReadInto};
 
 // A refusal, with zeros beside it.
@@ -94,7 +94,7 @@ pub fn read_set(file: &[u8], m: usize) -> model::ReadAnswer
     }
 }
 
-// The writer: questions 1, 5 and 7, and the set's records at the front of the output.
+// The writer: questions 1, 5 and 7, and the set's file at the front of the output.
 pub fn write_lent<'a>(
     m: usize,
     has_incurred: bool,
@@ -103,7 +103,8 @@ pub fn write_lent<'a>(
     incurred: &'a [i64; 400],
     out: &mut [u8],
 ) -> u64
-    ensures { λ r. ⌜ Wrote m «has_incurred» (now (counts .entry)) (now (paid .entry)) (now (incurred .entry)) (now (out .entry)) (now (out .exit)) r ⌝ }
+    ensures { λ r. ⌜ r ≡ writeRefusal m «has_incurred» (now (counts .entry)) (now (paid .entry)) (now (incurred .entry)) (length (now (out .entry))) ⌝ }
+    ensures { λ _. ⌜ now (out .exit) ≡ writeOutput m «has_incurred» (now (counts .entry)) (now (paid .entry)) (now (incurred .entry)) (now (out .entry)) ⌝ }
 {
     if !questions::q1(m) {
         return 1;
@@ -127,7 +128,8 @@ pub fn write_set(
     incurred: [i64; 400],
     out: &mut [u8],
 ) -> u64
-    ensures { λ r. ⌜ Wrote m «has_incurred» counts paid incurred (now (out .entry)) (now (out .exit)) r ⌝ }
+    ensures { λ r. ⌜ r ≡ writeRefusal m «has_incurred» counts paid incurred (length (now (out .entry))) ⌝ }
+    ensures { λ _. ⌜ now (out .exit) ≡ writeOutput m «has_incurred» counts paid incurred (now (out .entry)) ⌝ }
 {
     write_lent(m, has_incurred, &counts, &paid, &incurred, out)
 }

@@ -2,12 +2,14 @@
 ghost use mathlib.Core.Path.{_≡_};
 ghost use Prim.Native.Nat.{_+_, _≤_, _<_};
 ghost use lib.ListN.{length};
+ghost use Rattle.model.specs.Records.{givenSet};
 ghost use Rattle.model.specs.Overlay.{overlay};
-ghost use Rattle.triangles.specs.Written.{bits, recordBytes, yearBytes, kindBytes, setBytes};
+ghost use Rattle.model.specs.SetFile.{word, recordOf, fileOf};
+ghost use Rattle.triangles.specs.Written.{yearBytes, kindBytes};
 
-// The bits of a signed number.
-fn to_bits(v: i64) -> usize
-    ensures { λ r. ⌜ r ≡ bits v ⌝ }
+// A signed number as a word.
+fn to_word(v: i64) -> usize
+    ensures { λ r. ⌜ r ≡ word v ⌝ }
 {
     if v >= 0 {
         return v as usize;
@@ -16,10 +18,10 @@ fn to_bits(v: i64) -> usize
     18446744073709551615 - (y as usize)
 }
 
-// The bytes of a record: its kind, its accident year and delay, and the bits of its value.
+// The bytes of a record: its kind, its accident year and delay, and its value as a word.
 fn record_bytes(kind: usize, year: usize, delay: usize, x: usize) -> [u8; 16]
     requires { ⌜ (kind < 3) × (year ≤ 20) × (delay < 20) ⌝ }
-    ensures { λ r. ⌜ r ≡ recordBytes kind year delay x ⌝ }
+    ensures { λ r. ⌜ r ≡ recordOf kind year delay x ⌝ }
 {
     let x1 = x / 256;
     let x2 = x1 / 256;
@@ -79,7 +81,7 @@ fn put_year(
     let mut j = 0;
     while j < n {
         let v = cells[20 * (year - 1) + j];
-        put(out, next, record_bytes(kind, year, j, to_bits(v)));
+        put(out, next, record_bytes(kind, year, j, to_word(v)));
         next += 16;
         j += 1;
     }
@@ -102,7 +104,7 @@ fn put_kind(out: &mut [u8], a: usize, m: usize, kind: usize, cells: &[i64; 400])
     next
 }
 
-// Writes a set at the front of the output.
+// Writes the set's file at the front of the output: by kind, then year, then delay.
 pub fn put_set<'a>(
     m: usize,
     has_incurred: bool,
@@ -112,8 +114,8 @@ pub fn put_set<'a>(
     out: &mut [u8],
 )
     requires { ⌜ m ≤ 20 ⌝ }
-    requires { ⌜ length (setBytes m «has_incurred» (now counts) (now paid) (now incurred)) ≤ length (now out) ⌝ }
-    ensures { λ _. ⌜ now (out .exit) ≡ overlay (now (out .entry)) 0 (setBytes m «has_incurred» (now (counts .entry)) (now (paid .entry)) (now (incurred .entry))) ⌝ }
+    requires { ⌜ length (fileOf m (givenSet m «has_incurred» (now counts) (now paid) (now incurred))) ≤ length (now out) ⌝ }
+    ensures { λ _. ⌜ now (out .exit) ≡ overlay (now (out .entry)) 0 (fileOf m (givenSet m «has_incurred» (now (counts .entry)) (now (paid .entry)) (now (incurred .entry)))) ⌝ }
 {
     let second = put_kind(out, 0, m, 0, counts);
     let third = put_kind(out, second, m, 1, paid);

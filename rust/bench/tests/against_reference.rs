@@ -80,7 +80,6 @@ fn reader() {
     });
 }
 
-/// The peers write in the reference's order, which is free.
 #[test]
 fn writer() {
     for seed in 0..CASES {

@@ -5,13 +5,13 @@ use crate::Accepted;
 use pardesul::{calls, Triangle, TriangleSet};
 use reference::generate::{writer_case, Random, WriterCase};
 use reference::records::file_length;
-use reference::{read_set, write_set};
+use reference::write_set;
 
 /// Bytes before and behind the output.
 const AROUND: usize = 16;
 
-/// The set of the seed: the refusal, the records in any order, the bytes past them, and what reads
-/// back.
+/// The set of the seed: the refusal, every byte of the output and around it, and the file that the
+/// safe crate makes.
 pub fn of_case(seed: u64, accepted: &mut Accepted) -> Result<(), Difference> {
     let case = writer_case(seed);
     let text = || arguments(seed, &case);
@@ -41,39 +41,24 @@ pub fn of_case(seed: u64, accepted: &mut Accepted) -> Result<(), Difference> {
         &mut wanted[lent],
     );
     same("writer, refusal", refusal, answer.err().unwrap_or(0), text)?;
-    if refusal == 0 {
-        let written = AROUND..AROUND + file_length(m, case.has_incurred);
-        let read = read_set(&memory[written.clone()], case.m);
-        same(
-            "writer, what is written read back",
-            &read,
-            &read_set(&wanted[written.clone()], case.m),
-            text,
-        )?;
-        sort_records(&mut memory[written.clone()]);
-        sort_records(&mut wanted[written]);
-    }
-    same_list("writer, memory, its records sorted", &memory, &wanted, text)?;
+    same_list("writer, memory", &memory, &wanted, text)?;
 
-    let file = natural(&case).to_file().map_err(|refusal| refusal.number());
-    // An output of the file's own length is long enough.
-    let refusal_of_file = if refusal == 7 { 0 } else { refusal };
-    same(
-        "TriangleSet::to_file",
-        file.err().unwrap_or(0),
-        refusal_of_file,
-        text,
-    )?;
+    let found = natural(&case).to_file().map_err(|refusal| refusal.number());
+    same("TriangleSet::to_file", found, file(&case), text)?;
     *accepted.entry("write").or_default() += u64::from(refusal == 0);
     Ok(())
 }
 
-/// Brings the records of a file into the order of their bytes.
-fn sort_records(file: &mut [u8]) {
-    let mut records: Vec<&[u8]> = file.chunks_exact(16).collect();
-    records.sort();
-    let sorted = records.concat();
-    file.copy_from_slice(&sorted);
+/// The file of the case's set, whatever room the case has for it.
+fn file(case: &WriterCase) -> Result<Vec<u8>, u64> {
+    let length = match case.m {
+        m @ 2..=20 => file_length(m as usize, case.has_incurred),
+        _ => 0,
+    };
+    let mut out = vec![0; length];
+    let (counts, paid, incurred) = (&case.counts, &case.paid, &case.incurred);
+    write_set(case.m, case.has_incurred, counts, paid, incurred, &mut out)?;
+    Ok(out)
 }
 
 fn natural(case: &WriterCase) -> TriangleSet {

@@ -127,14 +127,16 @@ pub fn read_set(
     }
 }
 
-/// Writes a set's file to the front of `out`, in an order of the library's own; the bytes past it
-/// stay. `has_incurred` says whether incurred is there.
+/// Writes a set's file to the front of `out`, its records by kind, then accident year, then delay,
+/// each ascending; the bytes past it stay. `has_incurred` says whether incurred is there.
 ///
 /// ```
 /// use pardesul::calls::write_set;
 ///
 /// let mut out = [9; 100];
 /// assert_eq!(write_set(2, false, &[1; 400], &[1; 400], &[0; 400], &mut out), 0);
+/// assert_eq!(out[..9], [0, 1, 0, 0, 0, 0, 0, 0, 1]);
+/// assert_eq!(out[16..25], [0, 1, 1, 0, 0, 0, 0, 0, 1]);
 /// assert_eq!(out[96..], [9; 4]);
 /// assert_eq!(write_set(2, true, &[1; 400], &[1; 400], &[0; 400], &mut out), 7);
 /// ```

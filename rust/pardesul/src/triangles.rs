@@ -130,8 +130,9 @@ impl TriangleSet {
         }
     }
 
-    /// Writes the set's file to the front of `out`, where the bytes past it stay. Values outside
-    /// the cells are not looked at.
+    /// Writes the set's file to the front of `out`, where the bytes past it stay. Records go by
+    /// kind (counts, paid, incurred), then accident year, then delay. Values outside the cells are
+    /// not looked at.
     ///
     /// # Errors
     /// Refuses with 1, 5 and 7.
@@ -147,15 +148,26 @@ impl TriangleSet {
         ))
     }
 
-    /// The set's file.
+    /// The set's file, its records in the order of [`TriangleSet::write`]: two sets of one m have
+    /// the same file just where their cells are the same and both have incurred or neither.
     ///
     /// ```
     /// use pardesul::{Triangle, TriangleSet};
     ///
     /// let counts = Triangle::from_rows(&[&[80, 20], &[90]]);
-    /// let paid = Triangle::from_rows(&[&[600, -1], &[660]]);
-    /// let set = TriangleSet { m: 2, counts, paid, incurred: None };
+    /// let paid = Triangle::from_rows(&[&[600, 400], &[660]]);
+    /// let mut set = TriangleSet { m: 2, counts, paid, incurred: None };
+    /// let file = set.to_file()?;
+    ///
+    /// // The same records, the last one in front: read and written they are in order again.
+    /// let mut other = file.clone();
+    /// other.rotate_right(16);
+    /// assert_ne!(other, file);
+    /// assert_eq!(TriangleSet::read(&other, 2)?.to_file()?, file);
+    ///
+    /// set.paid.set(1, 1, -1);
     /// assert_eq!(set.to_file().unwrap_err().number(), 5);
+    /// # Ok::<(), pardesul::Refusal>(())
     /// ```
     ///
     /// # Errors

@@ -1,7 +1,7 @@
 //! An independent big-number calculation of document 01: a module for each of its sections, with
-//! its letters, and one for the closing page of document 02. Every quantity is a whole number of
-//! any size, rounded only where the document rounds, so that nothing here depends on how large the
-//! numbers get.
+//! its letters, with what document 02 has changed, and one for the closing page of document 02.
+//! Every quantity is a whole number of any size, rounded only where the document rounds, so that
+//! nothing here depends on how large the numbers get.
 
 pub mod back_test;
 pub mod big;

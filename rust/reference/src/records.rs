@@ -1,4 +1,4 @@
-//! 01, Triangle records: sets, their reader and their writer.
+//! 01, Triangle records: sets, their reader and their writer, whose order is that of 02, Job 2.
 
 use std::ops::RangeInclusive;
 
@@ -175,8 +175,8 @@ pub fn read_set(file: &[u8], m: u64) -> Result<Set, Refusal> {
     Ok(set)
 }
 
-/// Questions 1, 5 and 7, and the set written by kind, accident year and delay; bytes past it, and
-/// all on a refusal, stay. Question 5 is put to the cells alone.
+/// Questions 1, 5 and 7, and the set written by kind, then accident year, then delay, each
+/// ascending; bytes past it, and all on a refusal, stay. Question 5 is put to the cells alone.
 pub fn write_set(
     m: u64,
     has_incurred: bool,

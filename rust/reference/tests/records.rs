@@ -6,23 +6,62 @@ use reference::records::{cells, file_length, place};
 use reference::*;
 
 #[test]
-fn bytes_of_a_record() {
-    let bytes = file(&set_k());
-    assert_eq!(bytes.len(), 9 * 16);
+fn bytes_of_a_file() {
     let record = |kind: u8, i: u8, j: u8, value: i64| {
         let mut record = vec![kind, i, j, 0, 0, 0, 0, 0];
         record.extend(value.to_le_bytes());
         record
     };
-    for expected in [
+    let expected = [
         record(0, 1, 0, 80),
         record(0, 1, 1, 20),
         record(0, 2, 0, 90),
+        record(1, 1, 0, 600),
         record(1, 1, 1, 400),
+        record(1, 2, 0, 660),
+        record(2, 1, 0, 900),
+        record(2, 1, 1, 100),
         record(2, 2, 0, 1080),
-    ] {
-        let found = bytes.chunks(16).filter(|found| *found == expected);
-        assert_eq!(found.count(), 1);
+    ];
+    assert_eq!(file(&set_k()), expected.concat());
+    assert_eq!(file(&set_k_without_incurred()), expected[..6].concat());
+}
+
+/// Kind, accident year and delay, of a record.
+fn key(record: &[u8]) -> [u8; 3] {
+    [record[0], record[1], record[2]]
+}
+
+/// Equal sets have equal files, whatever order they were read in; a set that differs in one cell
+/// has a file that differs in that record alone.
+#[test]
+fn one_file_for_one_set() {
+    let mut random = Random::new(3);
+    for _ in 0..1_000 {
+        let set = any_set(&mut random);
+        let m = set.m as u64;
+        let bytes = file(&set);
+        assert!(bytes.chunks(16).map(key).is_sorted());
+        let read = read_set(&shuffled_file(&mut random, &set), m).unwrap();
+        assert_eq!(file(&read), bytes);
+
+        let mut other = set.clone();
+        let kind = random.below(usize::from(set.kinds())) as u8;
+        let every: Vec<(usize, usize)> = cells(set.m).collect();
+        let (i, j) = random.pick(&every);
+        let value = &mut other.triangle_mut(kind)[place(i, j)];
+        *value = if *value == 0 {
+            1
+        } else {
+            *value - value.signum()
+        };
+        let differing: Vec<[u8; 3]> = bytes
+            .chunks(16)
+            .zip(file(&other).chunks(16))
+            .filter(|(one, other)| one != other)
+            .map(|(one, _)| key(one))
+            .collect();
+        assert_eq!(differing, [[kind, i as u8, j as u8]]);
     }
 }
 

@@ -7,7 +7,7 @@ use denote.Ref.{now}
 use Rattle.model.specs.Questions.{q1, q5Writer}
 use Rattle.model.specs.Lengths.{set-most, size-so}
 use Rattle.model.specs.Tests.{refused, passed}
-use Rattle.triangles.specs.RoundTrip.{length-set}
+use Rattle.triangles.specs.RoundTrip.{length-file}
 use Rattle.triangles.proofs.Writing.{no-1, no-5, no-7, yes}
 use Rattle.triangles.proofs.write_lent.Statement.{statement}
 use Rattle.triangles.proofs.write_lent.Tie as tie
@@ -42,7 +42,7 @@ put-set-requires c κs =
     let d = e .before .before in
     let s = d .before .before .before .before .before .args in
     let y = size (d .before .before) in
-    (size-so _ y .1, omega (arith, e .if3 .left, e .before .set-records .ensures, length-set (s .m) (now (s .counts)) (now (s .paid)) (now (s .incurred)) y (s .has-incurred)))
+    (size-so _ y .1, omega (arith, e .if3 .left, e .before .set-records .ensures, length-file (s .m) (now (s .counts)) (now (s .paid)) (now (s .incurred)) y (s .has-incurred)))
 
 returns-4 : tie.Need-returns-4
 returns-4 c =

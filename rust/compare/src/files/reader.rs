@@ -1,17 +1,18 @@
-//! The reader.
+//! The reader, and the writer on what it read.
 
 use super::{fixed, numbered};
-use crate::difference::{hexadecimal, same, Difference};
+use crate::difference::{hexadecimal, same, same_list, Difference};
 use crate::memory::Memory;
 use pardesul::{calls, Triangle, TriangleSet};
-use reference::generate::Case;
+use reference::generate::{file as file_of, Case};
 use reference::{read_set, Set};
 
 pub fn compare(seed: u64, case: &Case) -> Result<bool, Difference> {
     compare_file(seed, &case.file, case.m)
 }
 
-/// The reader on any file; says whether it was accepted.
+/// The reader on any file; says whether it was accepted. What was read is written, in the writer's
+/// order whatever the file's is.
 pub fn compare_file(seed: u64, file: &[u8], m: u64) -> Result<bool, Difference> {
     let text = || format!("seed {seed}, m {m}, file {}", hexadecimal(file));
     let wanted = read_set(file, m);
@@ -33,6 +34,11 @@ pub fn compare_file(seed: u64, file: &[u8], m: u64) -> Result<bool, Difference> 
             let lists: [&[i64]; 3] = [&set.counts, &set.paid, &set.incurred];
             same("read, flag", has_incurred, set.has_incurred, text)?;
             memory.holds("read", Some(&lists), text)?;
+            let [counts, paid, incurred] = memory.lists().map(fixed);
+            let mut out = vec![0; file.len()];
+            let refusal = calls::write_set(m, has_incurred, counts, paid, incurred, &mut out);
+            same("read and written, refusal", refusal, 0, text)?;
+            same_list("read and written", &out, &file_of(set), text)?;
         }
         Err(_) => {
             same("read, flag", has_incurred, before, text)?;

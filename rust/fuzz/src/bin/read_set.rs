@@ -1,4 +1,5 @@
-//! `read_set` on any m and bytes: the head is m, 8 bytes, least byte first.
+//! `read_set` on any m and bytes, and `write_set` on what was read: the head is m, 8 bytes, least
+//! byte first.
 #![no_main]
 
 use compare::Difference;

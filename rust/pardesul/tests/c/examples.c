@@ -71,6 +71,21 @@ static set_file thin(int64_t late) {
   return file_of(2, (int64_t[]){1, late, 90}, paid_k, incurred_k);
 }
 
+/* K's file, byte by byte: by kind, then accident year, then delay. */
+static bool is_file_of_k(const uint8_t *bytes) {
+  static const struct {
+    uint8_t head[8];
+    uint16_t value;
+  } records[] = {{{0, 1, 0}, 80},  {{0, 1, 1}, 20},  {{0, 2, 0}, 90},
+                 {{1, 1, 0}, 600}, {{1, 1, 1}, 400}, {{1, 2, 0}, 660},
+                 {{2, 1, 0}, 900}, {{2, 1, 1}, 100}, {{2, 2, 0}, 1080}};
+  for (size_t k = 0; k < 9; k++, bytes += 16) {
+    const uint8_t value[8] = {(uint8_t)(records[k].value & 255), (uint8_t)(records[k].value >> 8)};
+    if (memcmp(bytes, records[k].head, 8) != 0 || memcmp(bytes + 8, value, 8) != 0) return false;
+  }
+  return true;
+}
+
 static void writer(void) {
   struct {
     int64_t counts[PARDESUL_CELLS], paid[PARDESUL_CELLS], incurred[PARDESUL_CELLS];
@@ -98,6 +113,7 @@ static void writer(void) {
   expect(pardesul_write_set(2, true, set.counts, set.paid, set.incurred, out, sizeof out) ==
              PARDESUL_ACCEPTED,
          "the writer, anything outside the cells");
+  expect(is_file_of_k(out), "the order of a file's records");
   expect(untouched(out + length, sizeof out - length), "the bytes past the file");
 }
 

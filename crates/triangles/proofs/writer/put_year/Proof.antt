@@ -7,7 +7,8 @@ use mir.Facts.{toZ-ofZ}
 use denote.Ref.{now}
 use Rattle.model.specs.Records.{cell}
 use Rattle.model.specs.Overlay.{overlay}
-use Rattle.triangles.specs.Written.{bits, recordBytes, cellBytes, yearBytes}
+use Rattle.model.specs.SetFile.{word, recordOf}
+use Rattle.triangles.specs.Written.{cellBytes, yearBytes}
 use Rattle.triangles.specs.WrittenLaws.{length-record}
 use Rattle.triangles.proofs.Chained.{Filled, filled-room, filled-none, filled-next}
 use Rattle.triangles.proofs.writer.put_year.Statement.{statement}
@@ -27,7 +28,7 @@ put-requires c κs =
     let s = d .before .before .before in
     omega (
       arith,
-      length-record (s .args .kind) (s .args .year) (l .j) (bits (cell (s .args .cells .now) (s .args .year) (l .j))),
+      length-record (s .args .kind) (s .args .year) (l .j) (word (cell (s .args .cells .now) (s .args .year) (l .j))),
       filled-room _ _ _ (l .inv .1) (s .args .n) (s .pre .1) (omega (arith, d .loop-test .taken)),
     )
 
@@ -39,7 +40,7 @@ loop-again c =
     let v = b .before .before .before in
     let l = v .before .before .loop in
     let s = v .before .before .before .before in
-    let e = b .record-bytes .ensures ∙ ap (recordBytes (s .args .kind) (s .args .year) (l .j)) (b .before .to-bits .ensures ∙ ap bits (toZ-ofZ (record { sfits = v .v .given }))) in (
+    let e = b .record-bytes .ensures ∙ ap (recordOf (s .args .kind) (s .args .year) (l .j)) (b .before .to-word .ensures ∙ ap word (toZ-ofZ (record { sfits = v .v .given }))) in (
       omega arith,
       filled-next _ _ _ (l .inv .1) (s .args .n) (s .pre .1)
           (ap (λ (n : ℕ). l .next + n) (sym (length-record _ _ _ _)), w .put .ensures ∙ ap (overlay (l .out) (l .next)) e) (w .put .kept .0),

@@ -1,12 +1,12 @@
 -- `record_bytes` meets its contract. Assumes nothing.
 use borrow.Author.Needs.{needs}
 use mathlib.Core.Path.{refl}
-use Rattle.triangles.specs.Written.{recordBytes, digits}
+use Rattle.model.specs.SetFile.{bytes, recordOf}
 use Rattle.triangles.proofs.writer.record_bytes.Statement.{statement}
 use Rattle.triangles.proofs.writer.record_bytes.Tie as tie
 
 returns : tie.Need-returns
-unfolding recordBytes digits
+unfolding recordOf bytes
 returns c = refl
 
 pub record-bytes-spec : {M : Type 1} → statement M

@@ -61,7 +61,7 @@ refusedRead n = record { refusal = n; set = noSet }
 unfoldable pub readAnswer : ℕ → List ℕ → ReadAnswer
 readAnswer m f = let n = readRefusal m f in ifAccepted n (acceptedRead (setOf m f)) (refusedRead n)
 
--- ---- the writer: questions 1, 5 and 7
+-- ---- the writer (its order: 02, Job 2): questions 1, 5 and 7
 
 unfoldable pub writeRefusal : ℕ → Bool → List ℤ → List ℤ → List ℤ → ℕ → ℕ
 writeRefusal m hasIncurred c d e room = firstNo ((1, q1 m) ∷ (5, q5Writer m hasIncurred c d e) ∷ (7, q7Writer m hasIncurred room) ∷ [])

@@ -13,13 +13,19 @@
  * incurred, once and in any order: a byte for the kind (0 count, 1 paid, 2 incurred), one for i,
  * one for j, five that are 0, and the value as a signed 64-bit number, least byte first.
  *
+ * Journals. A journal is a list of 0 to PARDESUL_JOURNAL_MOST transactions of 16 bytes: a claim
+ * number below PARDESUL_CLAIMS in four, least byte first, a byte for the kind (0 reported, 1 paid),
+ * one for the accident year i, one for the calendar year, i to m, one that is 0, and an amount of 0
+ * to 10^10 as a signed 64-bit number, least byte first, which is 0 in a report. The cell is (i,j)
+ * with j the calendar year less i.
+ *
  * Answers. A call hands back its refusal number, but for pardesul_respond and pardesul_tally_add:
  * PARDESUL_ACCEPTED, or the number of the first question that got a no. A refused call writes
  * nothing: every output stays as it was.
  *
  * Memory. Pointers are not null, each is to as many places as its declaration says, and the memory
- * lent to one call does not overlap. An empty file or output is a pointer to anything and the
- * length 0. A call keeps nothing for the next one, so calls may run at the same time in several
+ * lent to one call does not overlap. An empty file, journal or output is a pointer to anything and
+ * the length 0. A call keeps nothing for the next one, so calls may run at the same time in several
  * threads. PARDESUL_STACK bytes of stack are enough for any of them. */
 #ifndef PARDESUL_H
 #define PARDESUL_H
@@ -32,8 +38,8 @@
 extern "C" {
 #endif
 
-/* The version, 1,000,000 x major + 1,000 x minor + patch: 0.3.0. */
-#define PARDESUL_VERSION 3000
+/* The version, 1,000,000 x major + 1,000 x minor + patch: 0.4.0. */
+#define PARDESUL_VERSION 4000
 
 /* The bytes of stack that are enough for each call, and for any of them: so many a thread has to
  * have free when it makes the call. No theorem says so: the most that a call takes was measured
@@ -47,6 +53,7 @@ extern "C" {
 #define PARDESUL_STACK_FORECAST (15 * 1024)
 #define PARDESUL_STACK_BACK_TEST (19 * 1024)
 #define PARDESUL_STACK_CLOSING_PAGE (29 * 1024)
+#define PARDESUL_STACK_REPLAY (12 * 1024)
 #define PARDESUL_STACK_TALLY_ADD (3 * 1024)
 #define PARDESUL_STACK_RESPOND (32 * 1024)
 #define PARDESUL_STACK PARDESUL_STACK_RESPOND
@@ -74,6 +81,12 @@ extern "C" {
 /* The length in bytes of a closing page. */
 #define PARDESUL_PAGE_LENGTH(m) ((size_t)136 * (m))
 
+/* The length in bytes of a transaction, the most transactions of a journal, and the claims, which
+ * have the numbers from 0 on. */
+#define PARDESUL_TRANSACTION 16
+#define PARDESUL_JOURNAL_MOST 4096
+#define PARDESUL_CLAIMS 4096
+
 /* The bytes of the longest text of `closing`. */
 #define PARDESUL_TEXT 2573
 
@@ -100,7 +113,9 @@ enum pardesul_inflation {
 /* The refusal numbers. C(i,j) is the sum of row i up to delay j; A(j) sums C(i,j-1) and B(j) sums
  * C(i,j), both over rows 1 to m - j; g(j) is the share of a row, in billionths, that is there up to
  * delay j, estimated from them; a row base is the amount that a year's forecast spreads. 13 and 14
- * come under methods 1 and 2 only; 15 is asked of a closing page, in place of 7. */
+ * come under methods 1 and 2 only; 15 is asked of a closing page, in place of 7; 16 to 18 are asked
+ * of a journal, after 1: the length first, then transaction by transaction, of each by rising
+ * number. */
 enum pardesul_refusal {
   PARDESUL_ACCEPTED = 0,
   /* m is not 2 to 20 */
@@ -135,7 +150,22 @@ enum pardesul_refusal {
   PARDESUL_REFUSED_BASE = 14,
   /* the page is shorter than 136 × m bytes */
   PARDESUL_REFUSED_PAGE = 15,
+  /* the journal's length is not 0 to 4096 whole transactions, or a transaction has a bad field */
+  PARDESUL_REFUSED_TRANSACTION = 16,
+  /* a claim is reported twice, paid before it is reported, or paid under another accident year */
+  PARDESUL_REFUSED_CLAIM = 17,
+  /* a calendar year is below the one before it, or a cell leaves its range */
+  PARDESUL_REFUSED_BOOKING = 18,
 };
+
+/* What a journal comes to. The members follow one another without a gap, at bytes 0, 4096, 7296 and
+ * 10496, and are 10504 bytes, aligned to 8. */
+typedef struct pardesul_journal_tally {
+  uint8_t claims[PARDESUL_CLAIMS]; /* the claim's accident year, 0 where it is not reported */
+  int64_t counts[PARDESUL_CELLS];  /* reports by cell */
+  int64_t paid[PARDESUL_CELLS];    /* money paid by cell */
+  size_t last;                     /* the last calendar year, 0 where there is no transaction */
+} pardesul_journal_tally;
 
 /* An array parameter of at least so many places. C says so with `static`, by which compilers
  * warn of a shorter array; C++ has no such word, and takes the bare number, of which it checks
@@ -217,6 +247,15 @@ uint64_t pardesul_back_test(const uint8_t *file, size_t file_length, size_t m, u
  * pardesul_forecast. Refuses with 1 to 6, 15 and 9 to 14, in this order. */
 uint64_t pardesul_closing_page(const uint8_t *file, size_t file_length, size_t m, uint64_t method,
                                uint64_t basis, uint8_t *page, size_t page_length);
+
+/* Replays a journal of journal_length bytes. *tally gets each reported claim's accident year, the
+ * reports counted and the payments added up by cell, and the last calendar year; it starts from
+ * zeros, whatever was handed in. A claim is reported once, paid only after that and under the same
+ * accident year; calendar years do not fall; a cell of counts stays within 0 to 10^7 and one of
+ * paid within 0 to 10^10. counts and paid are then the triangles of a set without incurred, as
+ * pardesul_write_set takes them. Refuses with 1 and 16 to 18. */
+uint64_t pardesul_replay(const uint8_t *journal, size_t journal_length, size_t m,
+                         pardesul_journal_tally *tally);
 
 /* Adds a cell to the sums of calendar year `year`, reported to rbns and unreported to ibnr. The
  * year of cell (i,j) of a forecast is i + j - m, 1 to 2m - 2. For a year outside 1 to 38, or where

@@ -1,6 +1,7 @@
 /* How much stack each call takes: it runs on a stack that was filled with one byte, and the lowest
  * byte that changed is looked for. The most is taken over sets of 20 years that get each answer of
- * the call, under every method and basis and with every cut. In the repository's folder,
+ * the call, under every method and basis and with every cut, and over journals that do. In the
+ * repository's folder,
  *
  *     cc -O2 -Wl,-z,now -I include rust/records/stack.c target/staticlib/libc_api.a -o stack
  *     ./stack
@@ -29,6 +30,10 @@ static uint8_t kinds[PARDESUL_LIST], text[PARDESUL_TEXT], copy[LENGTH];
 static uint8_t page[PARDESUL_PAGE_LENGTH(YEARS)];
 static uint64_t sums[4];
 static bool has_incurred;
+static pardesul_journal_tally journal_tally;
+
+/* As many transactions as a journal may have. */
+static uint8_t journal[PARDESUL_JOURNAL_MOST * PARDESUL_TRANSACTION];
 
 /* The files, each behind a first line of `closing`. */
 static struct input {
@@ -103,6 +108,38 @@ static void closing_page(void) {
   }
 }
 
+static void transaction(size_t at, size_t claim, uint8_t kind, size_t accident, size_t calendar,
+                        uint64_t amount) {
+  uint8_t *to = journal + at * PARDESUL_TRANSACTION;
+  const uint8_t head[] = {(uint8_t)claim,    (uint8_t)(claim >> 8), 0, 0, kind, (uint8_t)accident,
+                          (uint8_t)calendar, 0};
+  memcpy(to, head, sizeof head);
+  for (size_t byte = 0; byte < 8; byte++) to[8 + byte] = (uint8_t)(amount >> 8 * byte);
+}
+
+/* The journal with this transaction as its last. */
+static void replay_last(size_t claim, uint8_t kind, size_t accident, size_t calendar,
+                        uint64_t amount) {
+  transaction(PARDESUL_JOURNAL_MOST - 1, claim, kind, accident, calendar, amount);
+  for (size_t m = YEARS; m <= YEARS + 1; m++) {
+    for (size_t less = 0; less <= PARDESUL_TRANSACTION; less++)
+      answer(pardesul_replay(journal, sizeof journal - less, m, &journal_tally));
+  }
+}
+
+/* Accepted; a kind that there is not; a claim reported twice, not reported, or of another year; a
+ * year below the one before; and more than the cell takes. */
+static void replay(void) {
+  const size_t latest = PARDESUL_JOURNAL_MOST - 2;
+  replay_last(latest, 1, YEARS, YEARS, 1);
+  replay_last(latest, 2, YEARS, YEARS, 1);
+  replay_last(0, 0, 1, YEARS, 0);
+  replay_last(1, 1, 1, YEARS, 1);
+  replay_last(0, 1, 2, YEARS, 1);
+  replay_last(0, 1, 1, YEARS - 1, 1);
+  replay_last(latest, 1, YEARS, YEARS, 10000000000);
+}
+
 static void tally_add(void) {
   for (uint64_t year = 0; year <= PARDESUL_YEARS + 1; year++) {
     pardesul_tally_add(years[0], years[1], year, INT64_MAX, 1);
@@ -137,6 +174,15 @@ static size_t changed(void (*function)(void)) {
   if (swapcontext(&here, &there) != 0) exit(1);
   while (at < sizeof stack && stack[at] == FILLED) at++;
   return sizeof stack - at;
+}
+
+/* A journal that is accepted: every other claim is reported and paid at once, year by year. */
+static void write_journal(void) {
+  for (size_t claim = 0; claim < PARDESUL_JOURNAL_MOST; claim += 2) {
+    const size_t year = 1 + claim * YEARS / PARDESUL_JOURNAL_MOST;
+    transaction(claim, claim, 0, year, year, 0);
+    transaction(claim + 1, claim, 1, year, year, 1);
+  }
 }
 
 /* The triangles of a set that every call accepts. */
@@ -216,12 +262,14 @@ int main(void) {
       {"forecast", forecast, PARDESUL_STACK_FORECAST, FROM_TO(0, 7) | FROM_TO(9, 14)},
       {"back_test", back_test, PARDESUL_STACK_BACK_TEST, FROM_TO(0, 6) | FROM_TO(8, 14)},
       {"closing_page", closing_page, PARDESUL_STACK_CLOSING_PAGE, FROM_TO(0, 6) | FROM_TO(9, 15)},
+      {"replay", replay, PARDESUL_STACK_REPLAY, 1u << 0 | 1u << 1 | FROM_TO(16, 18)},
       {"tally_add", tally_add, PARDESUL_STACK_TALLY_ADD, 1u << 0},
       {"respond", respond, PARDESUL_STACK_RESPOND, FROM_TO(0, 6) | FROM_TO(9, 14)},
   };
   int status = 0;
   size_t most = 0;
   add_all();
+  write_journal();
   const size_t none = changed(nothing);
   for (size_t at = 0; at < sizeof calls / sizeof *calls; at++) {
     answers = 0;

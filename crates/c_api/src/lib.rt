@@ -5,5 +5,6 @@ pub mod back_tests;
 pub mod closing;
 pub mod costs;
 pub mod forecasts;
+pub mod journals;
 pub mod ladder;
 pub mod sets;

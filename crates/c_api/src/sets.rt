@@ -46,5 +46,5 @@ pub extern "C" fn pardesul_write_set<'a>(
     ensures { λ r. ⌜ r ≡ writeRefusal m «has_incurred» (now (counts .entry)) (now (paid .entry)) (now (incurred .entry)) (length (now (out .entry))) ⌝ }
     ensures { λ _. ⌜ now (out .exit) ≡ writeOutput m «has_incurred» (now (counts .entry)) (now (paid .entry)) (now (incurred .entry)) (now (out .entry)) ⌝ }
 {
-    triangles::write_lent(m, has_incurred, counts, paid, incurred, out)
+    set_file::write_lent(m, has_incurred, counts, paid, incurred, out)
 }

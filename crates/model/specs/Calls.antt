@@ -7,8 +7,9 @@ use mathlib.Core.List.{List, [], _∷_, _++_}
 use lib.Dec.{eqb, leb}
 use lib.IntN.{ℤ, pos}
 use lib.ListN.{length, take, drop, replicate}
-use Rattle.model.specs.Records.{setOf, givenSet, setLength, hasIncurred}
+use Rattle.model.specs.Records.{triangle, records, setOf, givenSet, setLength, hasIncurred}
 use Rattle.model.specs.SetFile.{fileOf}
+use Rattle.model.specs.Journal.{ofTransaction, booked, tallyAfter, q16Length, ofTransactions, reports, payments}
 use Rattle.model.specs.Shares.{gList, bList, ultimates}
 use Rattle.model.specs.Delays.{delaysOf}
 use Rattle.model.specs.RowBases.{leftovers}
@@ -27,7 +28,9 @@ use Rattle.model.specs.declared.ForecastAnswer.{ForecastAnswer}
 use Rattle.model.specs.declared.ClaimCosts.{ClaimCosts}
 use Rattle.model.specs.declared.ClaimCostsAnswer.{ClaimCostsAnswer}
 use Rattle.model.specs.declared.BackTestAnswer.{BackTestAnswer}
+use Rattle.model.specs.declared.JournalTally.{JournalTally}
 use Rattle.model.specs.declared.Tally.{Tally}
+use Rattle.model.specs.declared.Transaction.{Transaction}
 use Rattle.model.specs.declared.FirstLine.{FirstLine}
 use Rattle.model.specs.declared.FirstLine.the-variants.{Asked, Refused}
 
@@ -222,3 +225,31 @@ filePage m f method basis = pageText m (fileTally m f method basis)
 unfoldable pub pageOutput : ℕ → List ℕ → ℕ → ℕ → List ℕ → List ℕ
 pageOutput m f method basis before =
     ifAccepted (pageRefusal m f method basis (length before)) (filePage m f method basis ++ drop (136 * m) before) before
+
+-- ---- the claims journal (02, Job 3): question 1, and 16 to 18
+
+-- 16 to 18 of one transaction after question 1
+abbrev pub ofStep : ℕ → JournalTally → Transaction → List Question
+ofStep m t x = (1, q1 m) ∷ ofTransaction m t x
+
+-- `step`: the refusal of these questions, and the tally afterwards, brought up to date or as it was
+pub record Stepped (questions : List Question) (t : JournalTally) (x : Transaction) (after : JournalTally) (r : ℕ) : Type 0 where
+  pub result : r ≡ firstNo questions
+  pub tally : after ≡ ifAccepted (firstNo questions) (booked t x) t
+
+-- a whole journal: 16 of its length before its transactions
+unfoldable pub replayRefusal : ℕ → List ℕ → ℕ
+replayRefusal m f = firstNo ((1, q1 m) ∷ (16, q16Length f) ∷ ofTransactions m f (records f))
+
+-- the tally afterwards: that of the journal, whatever stood there before; a refusal leaves it as it
+-- was
+unfoldable pub replayTally : ℕ → List ℕ → JournalTally → JournalTally
+replayTally m f before = ifAccepted (replayRefusal m f) (tallyAfter f (records f)) before
+
+-- What `replay` hands back and leaves in the tally. The triangles of an accepted journal are its
+-- reports counted and its payments added by cell over all of its transactions.
+pub record Replayed (m : ℕ) (f : List ℕ) (before after : JournalTally) (r : ℕ) : Type 0 where
+  pub result : r ≡ replayRefusal m f
+  pub tally : after ≡ replayTally m f before
+  pub counted : r ≡ 0 → after .counts ≡ triangle m (reports f)
+  pub added : r ≡ 0 → after .paid ≡ triangle m (payments f)

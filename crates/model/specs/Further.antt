@@ -11,12 +11,14 @@ use lib.Ieee.{fin, div, ofInt}
 use Rattle.model.specs.Lists.{chained}
 use Rattle.model.specs.Records.{givenSet, setOf}
 use Rattle.model.specs.Delays.{delaysOf}
+use Rattle.model.specs.RowBases.{leftovers}
+use Rattle.model.specs.Cells.{outputFrom}
 use Rattle.model.specs.PaidReserve.{Fraction, GDown, G, H, reserve, bound}
 use Rattle.model.specs.ClaimCosts.{quotient, meanCost, factor, inflation, claimCosts, noClaimCosts, yearInflation}
 use Rattle.model.specs.Questions.{firstNo, ofForecast, q5Writer, q7Writer}
 use Rattle.model.specs.SetFile.{word, recordOf, ofKind, fileOf}
-use Rattle.model.specs.Calls.{acceptedRead, readAnswer, writeRefusal, writeOutput, forecastAnswer, forecastOutput, acceptedClaimCosts, claimCostsAnswer, closingText}
-use Rattle.model.specs.Examples.{rowOf, two, same, figures, opened, asked}
+use Rattle.model.specs.Calls.{acceptedRead, readAnswer, writeRefusal, writeOutput, forecastAnswer, acceptedClaimCosts, claimCostsAnswer, closingText}
+use Rattle.model.specs.Examples.{rowOf, two, same, opened, asked}
 use Rattle.model.specs.declared.TriangleSet.{TriangleSet}
 use Rattle.model.specs.declared.Inflation.the-variants.{BaseYear, NoPaymentsYet, Ratio}
 
@@ -37,31 +39,53 @@ negative =
     ++ rowOf 1 1 0 (600 ∷ 400 ∷ 50 ∷ []) ++ rowOf 1 2 0 (660 ∷ 430 ∷ []) ++ rowOf 1 3 0 (700 ∷ [])
     ++ rowOf 2 1 0 (1500 ∷ minus 300 ∷ minus 100 ∷ []) ++ rowOf 2 2 0 (1500 ∷ minus 600 ∷ []) ++ rowOf 2 3 0 (800 ∷ [])
 
+-- -n
+abbrev pub less : ℕ → ℤ
+less n = negℤ (pos n)
+
+-- rows of a triangle, 20 places to a year
+unfoldable pub rowsOf : List (List ℤ) → List ℤ
+rowsOf [] = []
+rowsOf (xs ∷ rows) = take 20 (xs ++ replicate 20 (pos 0)) ++ rowsOf rows
+
+-- a set of counts, paid and incurred: what follows goes over sets, since by computation it takes
+-- long to read a file
+abbrev pub ofRows : List (List ℤ) → List (List ℤ) → List (List ℤ) → TriangleSet
+ofRows c d e = record { «has_incurred» = true; counts = rowsOf c; paid = rowsOf d; incurred = rowsOf e }
+
+-- counts of m = 3
+abbrev counts3 : List (List ℤ)
+counts3 = (pos 80 ∷ pos 20 ∷ pos 10 ∷ []) ∷ (pos 90 ∷ pos 25 ∷ []) ∷ (pos 100 ∷ []) ∷ []
+
+-- the set of `negative`
+unfoldable pub negativeSet : TriangleSet
+negativeSet =
+    ofRows counts3 ((pos 600 ∷ pos 400 ∷ pos 50 ∷ []) ∷ (pos 660 ∷ pos 430 ∷ []) ∷ (pos 700 ∷ []) ∷ [])
+    ((pos 1500 ∷ less 300 ∷ less 100 ∷ []) ∷ (pos 1500 ∷ less 600 ∷ []) ∷ (pos 800 ∷ []) ∷ [])
+
 -- m = 3: no payments yet in years 2 and 3
-unfoldable pub unpaid : List ℕ
+unfoldable pub unpaid : TriangleSet
 unpaid =
-    rowOf 0 1 0 (80 ∷ 20 ∷ 10 ∷ []) ++ rowOf 0 2 0 (90 ∷ 25 ∷ []) ++ rowOf 0 3 0 (100 ∷ [])
-    ++ rowOf 1 1 0 (600 ∷ 400 ∷ 50 ∷ []) ++ rowOf 1 2 0 (0 ∷ 0 ∷ []) ++ rowOf 1 3 0 (0 ∷ [])
-    ++ rowOf 2 1 0 (900 ∷ 100 ∷ 50 ∷ []) ++ rowOf 2 2 0 (1000 ∷ minus 200 ∷ []) ++ rowOf 2 3 0 (1080 ∷ [])
+    ofRows counts3 ((pos 600 ∷ pos 400 ∷ pos 50 ∷ []) ∷ (pos 0 ∷ pos 0 ∷ []) ∷ (pos 0 ∷ []) ∷ [])
+    ((pos 900 ∷ pos 100 ∷ pos 50 ∷ []) ∷ (pos 1000 ∷ less 200 ∷ []) ∷ (pos 1080 ∷ []) ∷ [])
 
 -- m = 3: reserves of years 2 and 3 that round away
-unfoldable pub settled : List ℕ
+unfoldable pub settled : TriangleSet
 settled =
-    rowOf 0 1 0 (80 ∷ 20 ∷ 10 ∷ []) ++ rowOf 0 2 0 (90 ∷ 25 ∷ []) ++ rowOf 0 3 0 (100 ∷ [])
-    ++ rowOf 1 1 0 (99000 ∷ 900 ∷ 100 ∷ []) ++ rowOf 1 2 0 (200 ∷ 3 ∷ []) ++ rowOf 1 3 0 (40 ∷ [])
-    ++ rowOf 2 1 0 (99000 ∷ 900 ∷ 100 ∷ []) ++ rowOf 2 2 0 (290 ∷ 10 ∷ []) ++ rowOf 2 3 0 (12 ∷ [])
+    ofRows counts3 ((pos 99000 ∷ pos 900 ∷ pos 100 ∷ []) ∷ (pos 200 ∷ pos 3 ∷ []) ∷ (pos 40 ∷ []) ∷ [])
+    ((pos 99000 ∷ pos 900 ∷ pos 100 ∷ []) ∷ (pos 290 ∷ pos 10 ∷ []) ∷ (pos 12 ∷ []) ∷ [])
 
 -- m = 3: few counts, so that the rounding of the weights of basis 0 shows
-unfoldable pub few : List ℕ
+unfoldable pub few : TriangleSet
 few =
-    rowOf 0 1 0 (1 ∷ 1 ∷ 1 ∷ []) ++ rowOf 0 2 0 (2 ∷ 1 ∷ []) ++ rowOf 0 3 0 (1 ∷ [])
-    ++ rowOf 1 1 0 (6000000000 ∷ 3000000000 ∷ 1000000000 ∷ []) ++ rowOf 1 2 0 (7000000000 ∷ 2500000000 ∷ []) ++ rowOf 1 3 0 (6400000001 ∷ [])
+    ofRows ((pos 1 ∷ pos 1 ∷ pos 1 ∷ []) ∷ (pos 2 ∷ pos 1 ∷ []) ∷ (pos 1 ∷ []) ∷ [])
+    ((pos 6000000000 ∷ pos 3000000000 ∷ pos 1000000000 ∷ []) ∷ (pos 7000000000 ∷ pos 2500000000 ∷ []) ∷ (pos 6400000001 ∷ []) ∷ []) []
 
 -- m = 4, for a back-test
-unfoldable pub four : List ℕ
+unfoldable pub four : TriangleSet
 four =
-    rowOf 0 1 0 (50 ∷ 30 ∷ 15 ∷ 5 ∷ []) ++ rowOf 0 2 0 (60 ∷ 33 ∷ 20 ∷ []) ++ rowOf 0 3 0 (55 ∷ 40 ∷ []) ++ rowOf 0 4 0 (70 ∷ [])
-    ++ rowOf 1 1 0 (500 ∷ 300 ∷ 100 ∷ 60 ∷ []) ++ rowOf 1 2 0 (620 ∷ 350 ∷ 90 ∷ []) ++ rowOf 1 3 0 (540 ∷ 410 ∷ []) ++ rowOf 1 4 0 (690 ∷ [])
+    ofRows ((pos 50 ∷ pos 30 ∷ pos 15 ∷ pos 5 ∷ []) ∷ (pos 60 ∷ pos 33 ∷ pos 20 ∷ []) ∷ (pos 55 ∷ pos 40 ∷ []) ∷ (pos 70 ∷ []) ∷ [])
+    ((pos 500 ∷ pos 300 ∷ pos 100 ∷ pos 60 ∷ []) ∷ (pos 620 ∷ pos 350 ∷ pos 90 ∷ []) ∷ (pos 540 ∷ pos 410 ∷ []) ∷ (pos 690 ∷ []) ∷ []) []
 
 -- ---- the tests
 
@@ -84,13 +108,13 @@ allTrue (t ∷ ts) = t && allTrue ts
 unfoldable pub refused : List ℕ → ℕ → ℕ → Bool
 refused f method n = eqb (forecastAnswer 2 f method 1 12 .refusal) n
 
--- the leftovers of IDCL, basis 1, of a file with m = 3
-unfoldable pub leftOver3 : List ℕ → List ℤ → Bool
-leftOver3 f xs = sameList (take 3 (forecastAnswer 3 f 2 1 30 .leftovers)) xs
+-- the leftovers of IDCL, of a set with m = 3
+unfoldable pub leftOver3 : TriangleSet → List ℤ → Bool
+leftOver3 s xs = sameList (take 3 (leftovers 3 s 2)) xs
 
--- -n
-abbrev pub less : ℕ → ℤ
-less n = negℤ (pos n)
+-- the output of a set with m = 3 under basis 0, whose places held 5
+unfoldable pub output3 : TriangleSet → ℕ → ℕ → List ℤ
+output3 s method room = outputFrom 3 s (delaysOf 3 s) method 0 (replicate room (pos 5))
 
 -- m = 2: the triangle x, y / z, and d in the places that are no cell
 abbrev pub lentCells : ℤ → ℤ → ℤ → ℤ → List ℤ
@@ -113,18 +137,16 @@ refusedSet x y z a b c method n =
 -- payments, and by a reserve that rounds away
 unfoldable pub forecasts : List Bool
 forecasts =
-    sameList (forecastOutput 3 negative 2 0 (replicate 31 (pos 5)))
+    sameList (output3 negativeSet 2 31)
     (pos 0 ∷ pos 0 ∷ pos 0 ∷ pos 0 ∷ pos 0 ∷ pos 0 ∷ pos 7 ∷ pos 0 ∷ less 11 ∷ pos 0 ∷ pos 0 ∷ pos 0 ∷ pos 0 ∷ pos 0
     ∷ pos 120 ∷ less 401 ∷ pos 129 ∷ less 158 ∷ pos 0 ∷ pos 59 ∷ pos 0 ∷ pos 0 ∷ less 99 ∷ less 67 ∷ pos 37 ∷ less 58 ∷ pos 0 ∷ less 3
     ∷ pos 0 ∷ pos 5 ∷ pos 5 ∷ [])
-    ∷ sameList (forecastOutput 3 few 0 0 (replicate 30 (pos 5)))
+    ∷ sameList (output3 few 0 30)
     (pos 0 ∷ pos 0 ∷ pos 0 ∷ pos 0 ∷ pos 0 ∷ pos 0 ∷ less 3986486473 ∷ pos 0
     ∷ less 2702702691 ∷ pos 0 ∷ pos 0 ∷ pos 0 ∷ pos 0 ∷ pos 0 ∷ less 4707207198 ∷ pos 5563063054
     ∷ less 1901901893 ∷ less 1355105103 ∷ pos 0 ∷ less 2852852840 ∷ pos 0 ∷ pos 0 ∷ less 1558974360 ∷ pos 4266666673
     ∷ less 3282051273 ∷ pos 4294017088 ∷ pos 0 ∷ less 3487179483 ∷ pos 0 ∷ less 2735042725 ∷ [])
-    ∷ leftOver3 negative (pos 50 ∷ pos 0 ∷ pos 0 ∷ []) ∷ leftOver3 unpaid (pos 0 ∷ pos 840 ∷ pos 1074 ∷ []) ∷ leftOver3 settled (pos 0 ∷ pos 97 ∷ less 28 ∷ [])
-    -- a back-test with cut 1: two cells, errors 127 by cell, 67 by calendar year and in all
-    ∷ sameList (figures 4 four 1 0 0) (pos 2 ∷ pos 127 ∷ pos 67 ∷ pos 67 ∷ [])
+    ∷ leftOver3 negativeSet (pos 50 ∷ pos 0 ∷ pos 0 ∷ []) ∷ leftOver3 unpaid (pos 0 ∷ pos 840 ∷ pos 1074 ∷ []) ∷ leftOver3 settled (pos 0 ∷ pos 97 ∷ less 28 ∷ [])
     -- demand 3 for year 2 of K: H = 1100, the reserve 440, and the bound 2 + 1100 / (6 × 10^8)
     ∷ sameFraction (H 2 (setOf 2 K .paid) 2) (pos 1100) (pos 1) ∷ sameFraction (reserve 2 (setOf 2 K .paid) 2) (pos 440) (pos 1)
     ∷ sameFraction (bound 2 (setOf 2 K .paid) 2) (pos 12000011) (pos 6000000)
@@ -154,7 +176,7 @@ refusals =
 
 unfoldable pub opened-further : ℕ
 unfolding
-    opened K negative unpaid settled few four sameList sameFraction allTrue refused leftOver3 refusedSet forecasts refusals
+    opened K negative rowsOf negativeSet unpaid settled few four sameList sameFraction allTrue refused leftOver3 output3 refusedSet forecasts refusals
     GDown G H reserve bound
     quotient meanCost factor inflation claimCosts noClaimCosts claimCostsAnswer div ofInt
     readAnswer writeRefusal writeOutput q5Writer q7Writer chained word ofKind fileOf

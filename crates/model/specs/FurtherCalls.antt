@@ -10,32 +10,34 @@ use lib.ListN.{take, replicate}
 use Rattle.model.specs.PaidReserve.{yearSum}
 use Rattle.model.specs.Records.{setOf}
 use Rattle.model.specs.Calendar.{tallyAdd}
-use Rattle.model.specs.Questions.{q1}
+use Rattle.model.specs.Questions.{q1, q8}
 use Rattle.model.specs.SetFile.{word, recordOf, fileOf}
-use Rattle.model.specs.Calls.{readAnswer, writeRefusal, writeOutput, refusedRead, refusedForecast, forecastAnswer, forecastOutput, acceptedBackTest, refusedBackTest, backTestAnswer}
-use Rattle.model.specs.Examples.{rowOf, two}
-use Rattle.model.specs.Further.{K, negative, four, less, lentCells, refused, opened-further}
+use Rattle.model.specs.Calls.{readAnswer, writeRefusal, writeOutput, refusedRead, refusedForecast, forecastAnswer, forecastOutput, acceptedBackTest, refusedBackTest, backTestOf, backTestAnswer}
+use Rattle.model.specs.Examples.{two}
+use Rattle.model.specs.Further.{K, negative, less, ofRows, four, lentCells, refused, opened-further}
+use Rattle.model.specs.declared.TriangleSet.{TriangleSet}
 use Rattle.model.specs.declared.Tally.{Tally}
 
 -- ---- the back-test
 
 -- m = 5: with cut 2 the errors are 30 and -97 in calendar year 1, and 27 in year 2
-unfoldable pub five : List ℕ
+unfoldable pub five : TriangleSet
 five =
-    rowOf 0 1 0 (50 ∷ 30 ∷ 15 ∷ 5 ∷ 2 ∷ []) ++ rowOf 0 2 0 (60 ∷ 33 ∷ 20 ∷ 7 ∷ []) ++ rowOf 0 3 0 (55 ∷ 40 ∷ 18 ∷ [])
-    ++ rowOf 0 4 0 (70 ∷ 44 ∷ []) ++ rowOf 0 5 0 (66 ∷ [])
-    ++ rowOf 1 1 0 (500 ∷ 300 ∷ 100 ∷ 60 ∷ 10 ∷ []) ++ rowOf 1 2 0 (620 ∷ 350 ∷ 90 ∷ 40 ∷ []) ++ rowOf 1 3 0 (540 ∷ 410 ∷ 80 ∷ [])
-    ++ rowOf 1 4 0 (690 ∷ 380 ∷ []) ++ rowOf 1 5 0 (700 ∷ [])
+    ofRows
+    ((pos 50 ∷ pos 30 ∷ pos 15 ∷ pos 5 ∷ pos 2 ∷ []) ∷ (pos 60 ∷ pos 33 ∷ pos 20 ∷ pos 7 ∷ []) ∷ (pos 55 ∷ pos 40 ∷ pos 18 ∷ []) ∷ (pos 70 ∷ pos 44 ∷ []) ∷ (pos 66 ∷ []) ∷ [])
+    ((pos 500 ∷ pos 300 ∷ pos 100 ∷ pos 60 ∷ pos 10 ∷ []) ∷ (pos 620 ∷ pos 350 ∷ pos 90 ∷ pos 40 ∷ []) ∷ (pos 540 ∷ pos 410 ∷ pos 80 ∷ []) ∷ (pos 690 ∷ pos 380 ∷ []) ∷ (pos 700 ∷ []) ∷ []) []
 
--- three cells, and all three errors differ
-pub cut-two : backTestAnswer 5 five 2 0 0 ≡ acceptedBackTest 3 154 94 40
+-- three cells, and all three errors differ; of m = 4 with cut 1 two cells, with cut 2 one
+pub cut-sets :
+    (backTestOf 5 five 2 0 0 ≡ acceptedBackTest 3 154 94 40) × (backTestOf 4 four 1 0 0 ≡ acceptedBackTest 2 127 67 67)
+    × (backTestOf 4 four 2 0 0 ≡ acceptedBackTest 1 22 22 22)
 unfolding opened-further five
-cut-two = refl
+cut-sets = (refl, refl, refl)
 
--- 8: of m = 4 the cut may be 2, but neither 3 nor 0
-pub cuts : (backTestAnswer 4 four 2 0 0 ≡ acceptedBackTest 1 22 22 22) × (backTestAnswer 4 four 3 0 0 ≡ refusedBackTest 8) × (backTestAnswer 4 four 0 0 0 ≡ refusedBackTest 8)
+-- 8: of m = 4 the cut may be 2, but neither 3 nor 0; and a file of m = 2, which has no cut
+pub cuts : (q8 4 2 ≡ true) × (q8 4 3 ≡ false) × (q8 4 0 ≡ false) × (backTestAnswer 2 K 1 0 0 ≡ refusedBackTest 8)
 unfolding opened-further
-cuts = (refl, refl, refl)
+cuts = (refl, refl, refl, refl)
 
 -- ---- the forecast
 

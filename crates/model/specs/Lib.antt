@@ -1,5 +1,5 @@
--- The definitions of document 01, a file for each of its sections, in its order; Page and SetFile
--- are of document 02.
+-- The definitions of document 01, a file for each of its sections, in its order; Page, SetFile and
+-- Journal are of document 02.
 pub mod Lists
 pub mod ListsLaws
 pub mod Overlay
@@ -21,6 +21,7 @@ pub mod BackTest
 pub mod Questions
 pub mod QuestionsLaws
 pub mod SetFile
+pub mod Journal
 pub mod Lengths
 pub mod Calls
 pub mod CallsLaws
@@ -30,3 +31,4 @@ pub mod Examples
 pub mod Further
 pub mod FurtherCalls
 pub mod PageExamples
+pub mod JournalExamples

@@ -124,6 +124,28 @@ pub struct BackTestAnswer {
     pub overall: u64,
 }
 
+// What a claims journal has come to (02, Job 3): each reported claim's accident year, 0 for none;
+// reports counted and payments added by cell, cell (i,j) at 20 × (i-1) + j; the calendar year of
+// the last transaction, 0 for none.
+#[repr(C)]
+pub struct JournalTally {
+    pub claims: [u8; 4096],
+    pub counts: [i64; 400],
+    pub paid: [i64; 400],
+    pub last: usize,
+}
+
+// A transaction of a journal: kind 0 reports a claim, kind 1 pays an amount; `spare` is the byte
+// that has to be zero.
+pub struct Transaction {
+    pub claim: usize,
+    pub kind: usize,
+    pub accident: usize,
+    pub calendar: usize,
+    pub spare: usize,
+    pub amount: i64,
+}
+
 // A run of digits and the byte after it: the number and the place after that byte.
 pub enum Run {
     Number(u64, usize),

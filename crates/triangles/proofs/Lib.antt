@@ -3,5 +3,3 @@ pub mod Bytes
 pub mod Counting
 pub mod Once
 pub mod Answer
-pub mod Chained
-pub mod Writing

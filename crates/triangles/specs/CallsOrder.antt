@@ -1,19 +1,13 @@
--- The order of the records changes no call's answer, and not the file of the set that they hold:
--- the set and the questions are the same. Assumes nothing.
-use mathlib.Core.Path.{_≡_, ap}
+-- The order of the records changes no call's answer: the set and the questions are the same. Assumes
+-- nothing.
+use mathlib.Core.Path.{_≡_}
 use mathlib.Core.List.{List}
 use Prim.Native.Nat.{ℕ}
 use lib.IntN.{ℤ}
-use Rattle.model.specs.Records.{setOf}
-use Rattle.model.specs.SetFile.{fileOf}
 use Rattle.model.specs.Calls.{callRefusal, sharesRefusal, sharesAnswer, delaysRefusal, delaysAnswer, forecastRefusal, forecastAnswer, forecastOutput, claimCostsAnswer, backTestRefusal, backTestAnswer}
 use Rattle.triangles.specs.Order.{SameRecords, hasIncurred-order, questions-order, set-order}
 
 module _ (f g : List ℕ) (same : SameRecords f g) (m : ℕ) where
-  -- what was read, written again
-  pub file-order : fileOf m (setOf m f) ≡ fileOf m (setOf m g)
-  file-order = ap (fileOf m) (set-order f g same m)
-
   shares-refusal-order : sharesRefusal m f ≡ sharesRefusal m g
   unfolding callRefusal sharesRefusal
   shares-refusal-order = rw (questions-order f g same m, set-order f g same m)

@@ -1,14 +1,11 @@
--- Laws of lists, the records of a file and their order, and the bytes that the writer writes.
+-- Laws of lists, the records of a file and their order, and the set that they hold.
 pub mod Stores
 pub mod Folds
 pub mod OneRecord
+pub mod Ranges
 pub mod Order
 pub mod Places
 pub mod Keys
 pub mod LentLaws
 pub mod ReadCells
-pub mod Written
-pub mod WrittenLaws
-pub mod RoundTrip
-pub mod SameFile
 pub mod CallsOrder

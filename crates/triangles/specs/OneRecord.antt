@@ -2,17 +2,17 @@
 -- Assumes nothing.
 use mathlib.Core.Path.{_≡_, refl, sym, _∙_, ap, ap₂}
 use mathlib.Core.Bool.{Bool, _&&_, cond}
-use mathlib.Core.List.{List, _++_}
+use mathlib.Core.List.{List}
 use Prim.Native.Nat.{ℕ, zero, suc, _+_, _*_, _^_, _<_}
 use native.Mathlib.Nat.{add-zero}
 use native.Mathlib.Omega.{arith}
 use lib.Dec.{ltb}
-use lib.ListN.{length, getD, take, drop, length-append, length-drop}
-use lib.Seq.{getD-take, getD-drop, take-append-le, drop-append-le, drop-append-add}
+use lib.ListN.{getD, take, drop}
+use lib.Seq.{getD-take, getD-drop}
 use Rattle.model.specs.Records.{inside, kindAt, yearAt, delayAt, sparesZero, leastFirst, signed, valueAt, records, isOf, hasIncurred, inRange}
 use Rattle.model.specs.Lists.{every}
 use Rattle.model.specs.Questions.{q3, kinds, recordOk}
-use Rattle.triangles.specs.Folds.{Monoid, fold, fold-ext, fold-split, joined}
+use Rattle.triangles.specs.Folds.{Monoid, fold}
 
 -- record k of a file
 unfoldable pub recordAt : List ℕ → ℕ → List ℕ
@@ -105,22 +105,3 @@ ofCell-local z W t i j h f k = rw (isOf-local f k t i j, h f k)
 
 unfoldable pub over : {A : Type 0} → Monoid A → (List ℕ → ℕ → A) → List ℕ → A
 over M G f = fold M (records f) (G f)
-
--- of two files one after the other
-pub over-append : {A : Type 0} (M : Monoid A) (G : List ℕ → ℕ → A) → Local G → (f g : List ℕ) (n : ℕ) → length f ≡ 16 * n → over M G (f ++ g) ≡ M .op (over M G f) (over M G g)
-unfolding over recordAt
-over-append M G h f g n e =
-    ap (λ (i : ℕ). fold M i (G (f ++ g))) number ∙ fold-split M (records f) (records g) (G (f ++ g))
-    ∙ joined M (fold-ext M (records f) (G (f ++ g)) (G f) (λ k l. h (f ++ g) k ∙ ap (λ (r : List ℕ). G r 0) (front k l) ∙ sym (h f k)))
-    (fold-ext M (records g) (λ k. G (f ++ g) (records f + k)) (G g) (λ k l. h (f ++ g) (records f + k) ∙ ap (λ (r : List ℕ). G r 0) (back k) ∙ sym (h g k)))
-  where
-    number : records (f ++ g) ≡ records f + records g
-    number = rw (length-append f g, e) (omega arith)
-
-    front : (k : ℕ) → k < records f → recordAt (f ++ g) k ≡ recordAt f k
-    front k l = ap (take 16) (drop-append-le (16 * k) f g (omega arith)) ∙ take-append-le 16 (drop (16 * k) f) g (omega (arith, length-drop (16 * k) f))
-
-    back : (k : ℕ) → recordAt (f ++ g) (records f + k) ≡ recordAt g k
-    back k =
-        let z : 16 * (records f + k) ≡ length f + 16 * k = omega arith in
-        ap (λ (i : ℕ). take 16 (drop i (f ++ g))) z ∙ ap (take 16) (drop-append-add f g (16 * k))

@@ -21,7 +21,7 @@ fn two(file: &[u8], at: usize) -> usize
     byte(file, at) + 256 * byte(file, at + 1)
 }
 
-fn four(file: &[u8], at: usize) -> usize
+pub fn four(file: &[u8], at: usize) -> usize
     requires { ⌜ at + 4 ≤ length (now file) ⌝ }
     ensures { λ r. ⌜ Number 4 (now (file .entry)) at r ⌝ }
 {

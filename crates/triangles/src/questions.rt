@@ -1,14 +1,12 @@
-// Question 1, how many records a set has, question 3 of a record, question 5 of a value, and the
-// writer's question 5.
+// Question 1, how many records a set has, question 3 of a record, and question 5 of a value.
 use crate::fields;
 ghost use mathlib.Core.Path.{_≡_};
 ghost use mathlib.Core.Bool.{_&&_, cond};
-ghost use Prim.Native.Nat.{_+_, _-_, _*_, _^_, _≤_, _<_};
+ghost use Prim.Native.Nat.{_-_, _*_, _^_, _≤_, _<_};
 ghost use lib.Dec.{ltb, eqb};
 ghost use lib.IntN.{pos, negsuc};
-ghost use Rattle.model.specs.Lists.{every};
-ghost use Rattle.model.specs.Records.{inside, cell, inRange, setLength};
-ghost use Rattle.model.specs.Questions.{q1, kinds, eachCell, q5Writer};
+ghost use Rattle.model.specs.Records.{inside, inRange, setLength};
+ghost use Rattle.model.specs.Questions.{q1, kinds};
 
 // Question 1.
 pub fn q1(m: usize) -> bool
@@ -71,58 +69,4 @@ pub fn in_range(kind: usize, v: i64) -> bool
     ensures { λ r. ⌜ r ≡ inRange kind v ⌝ }
 {
     (lowest(kind) <= v) & (v <= highest(kind))
-}
-
-// Question 5 of the first n cells of a year.
-fn year_ok(kind: usize, cells: &[i64; 400], year: usize, n: usize) -> bool
-    requires { ⌜ (1 ≤ year) × (year ≤ 20) × (n ≤ 20) ⌝ }
-    ensures { λ r. ⌜ r ≡ every n (λ j. inRange kind (cell (now (cells .entry)) year j)) ⌝ }
-{
-    let mut j = 0;
-    while j < n {
-        let v = cells[20 * (year - 1) + j];
-        if !in_range(kind, v) {
-            return false;
-        }
-        j += 1;
-    }
-    true
-}
-
-// Question 5 of the cells of a triangle, year by year.
-fn cells_ok(m: usize, kind: usize, cells: &[i64; 400]) -> bool
-    requires { ⌜ m ≤ 20 ⌝ }
-    ensures { λ r. ⌜ r ≡ eachCell m (λ i j. inRange kind (cell (now (cells .entry)) i j)) ⌝ }
-{
-    let mut k = 0;
-    while k < m {
-        if !year_ok(kind, cells, k + 1, m - k) {
-            return false;
-        }
-        k += 1;
-    }
-    true
-}
-
-// Question 5 of the set.
-pub fn set_ok<'a>(
-    m: usize,
-    has_incurred: bool,
-    counts: &'a [i64; 400],
-    paid: &'a [i64; 400],
-    incurred: &'a [i64; 400],
-) -> bool
-    requires { ⌜ m ≤ 20 ⌝ }
-    ensures { λ r. ⌜ r ≡ q5Writer m «has_incurred» (now (counts .entry)) (now (paid .entry)) (now (incurred .entry)) ⌝ }
-{
-    if !cells_ok(m, 0, counts) {
-        return false;
-    }
-    if !cells_ok(m, 1, paid) {
-        return false;
-    }
-    if has_incurred {
-        return cells_ok(m, 2, incurred);
-    }
-    true
 }

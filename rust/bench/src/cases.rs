@@ -1,9 +1,10 @@
-//! The measured calls: each proved one with those of both peers, on the same file.
+//! The measured calls: each proved one with those of both peers, on the same file or journal.
 
 use crate::plain::Set;
 use crate::{expert, plain};
-use pardesul::calls;
-use reference::generate::{any_set, shuffled_file, Random};
+use pardesul::{calls, JournalTally};
+use reference::generate::{any_journal, any_set, shuffled_file, Random};
+use reference::journal::{journal, MOST, REPORTED};
 use std::hint::black_box;
 
 const SIZES: [usize; 4] = [2, 5, 10, 20];
@@ -11,14 +12,15 @@ const SIZES: [usize; 4] = [2, 5, 10, 20];
 /// The sides of a case: the proved call, the plain one and the expert's.
 pub const SIDES: usize = 3;
 
-/// A call on the file of a set of m years, by each side.
+/// A call on the file of a set of m years, or on a journal of as many, by each side.
 pub struct Case {
     pub call: String,
     pub m: usize,
     pub sides: [Box<dyn FnMut()>; SIDES],
 }
 
-/// All of them, in the order of the table. Their files stay in memory to the program's end.
+/// All of them, in the order of the table. Their files and journals stay in memory to the program's
+/// end.
 pub fn cases() -> Vec<Case> {
     let mut cases = Vec::new();
     for m in SIZES {
@@ -29,7 +31,7 @@ pub fn cases() -> Vec<Case> {
             cases.extend([0, 1].map(|basis| forecast(file, m, method, basis)));
         }
         cases.extend([claim_costs(file, m), respond(file, m)]);
-        cases.push(closing_page(file, m));
+        cases.extend([closing_page(file, m), replay(m)]);
         if m > 2 {
             cases.extend([1, m / 2].map(|cut| back_test(file, m, cut)));
         }
@@ -51,6 +53,20 @@ fn accepted_file(m: usize) -> Vec<u8> {
         let forecast = |method| plain::forecast(&file, m, method, 0, &mut [0; 1560]).is_ok();
         if (m == 2 || [1, m as u64 / 2].into_iter().all(tested)) && (0..3).all(forecast) {
             return file;
+        }
+    }
+}
+
+/// A journal of all m calendar years and as many transactions as there may be, a quarter to a half
+/// of them reports.
+fn longest_journal(m: usize) -> Vec<u8> {
+    let mut random = Random::new(m as u64);
+    loop {
+        let list = any_journal(&mut random, m, MOST);
+        let reports = list.iter().filter(|each| each.kind == REPORTED).count();
+        let years = [0, MOST - 1].map(|at| usize::from(list[at].calendar_year));
+        if (MOST / 4..MOST / 2).contains(&reports) && years == [1, m] {
+            return journal(&list);
         }
     }
 }
@@ -250,6 +266,24 @@ fn closing_page(file: &'static [u8], m: usize) -> Case {
         move || {
             let file = black_box(file);
             black_box(expert::closing_page(file, m, 0, 1, &mut expert_page)).ok();
+        },
+    )
+}
+
+fn replay(m: usize) -> Case {
+    let journal: &[u8] = longest_journal(m).leak();
+    let (mut tally, mut expert_tally) = (JournalTally::zero(), plain::JournalTally::zero());
+    case(
+        "replay",
+        m,
+        move || {
+            black_box(calls::replay(black_box(journal), m, &mut tally));
+        },
+        move || {
+            black_box(plain::replay(black_box(journal), m)).ok();
+        },
+        move || {
+            black_box(expert::replay(black_box(journal), m, &mut expert_tally)).ok();
         },
     )
 }

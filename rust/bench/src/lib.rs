@@ -1,5 +1,5 @@
 //! The proved calls measured against two peers, document 01 in plain Rust with 128-bit numbers and
-//! as an expert writes it: the same file, the same run.
+//! as an expert writes it: the same file or journal, the same run.
 
 mod callgrind;
 mod cases;

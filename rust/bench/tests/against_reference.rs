@@ -1,8 +1,8 @@
 //! The peers against the independent calculation.
 
-use bench::plain::{BackTest, ClaimCosts, Inflation, Set, Shares};
+use bench::plain::{BackTest, ClaimCosts, Inflation, JournalTally, Set, Shares};
 use bench::{expert, plain};
-use reference::generate::{case, closing_input, writer_case, Case};
+use reference::generate::{case, closing_input, journal_case, writer_case, Case};
 use std::sync::OnceLock;
 
 const CASES: u64 = 3_000;
@@ -23,6 +23,7 @@ struct Peer {
     back_test: fn(&[u8], usize, u64, u64, u64) -> Answer<BackTest>,
     respond: fn(&[u8], &mut [u8]) -> usize,
     closing_page: ClosingPage,
+    replay: fn(&[u8], usize, &mut JournalTally) -> Answer<()>,
 }
 
 const PEERS: [Peer; 2] = [
@@ -37,6 +38,7 @@ const PEERS: [Peer; 2] = [
         back_test: plain::back_test,
         respond: plain::respond,
         closing_page: plain::closing_page,
+        replay: |journal, m, tally| plain::replay(journal, m).map(|found| *tally = found),
     },
     Peer {
         name: "expert",
@@ -55,6 +57,7 @@ const PEERS: [Peer; 2] = [
         back_test: expert::back_test,
         respond: expert::respond,
         closing_page: expert::closing_page,
+        replay: expert::replay,
     },
 ];
 
@@ -199,4 +202,33 @@ fn closing_page() {
             assert!(page[wanted.len()..].iter().all(|&byte| byte == 7), "{text}");
         }
     });
+}
+
+/// The tally starts from zeros whatever was handed in, and stays as it was on a refusal.
+#[test]
+fn replay() {
+    let mut accepted = 0;
+    for seed in 0..CASES {
+        let case = journal_case(seed);
+        let wanted = reference::replay(&case.journal, case.m);
+        accepted += u64::from(wanted.is_ok());
+        for peer in &PEERS {
+            let mut tally = JournalTally {
+                claims: [7; 4_096],
+                counts: [7; 400],
+                paid: [7; 400],
+                last: 7,
+            };
+            let found = (peer.replay)(&case.journal, case.m as usize, &mut tally);
+            let text = format!("{}, seed {seed}", peer.name);
+            assert_eq!(found.err(), wanted.as_ref().err().copied(), "{text}");
+            let found = (tally.claims, tally.counts, tally.paid, tally.last);
+            let wanted = match &wanted {
+                Ok(wanted) => (wanted.claims, wanted.counts, wanted.paid, wanted.last),
+                Err(_) => ([7; 4_096], [7; 400], [7; 400], 7),
+            };
+            assert!(found == wanted, "{text}");
+        }
+    }
+    assert!(accepted > 1_000 && CASES - accepted > 1_000, "{accepted}");
 }

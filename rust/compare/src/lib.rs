@@ -5,6 +5,7 @@
 mod difference;
 mod examples;
 mod files;
+mod journal;
 mod memory;
 mod respond;
 mod tally;
@@ -16,7 +17,8 @@ pub use examples::{edges, examples};
 use std::collections::BTreeMap;
 
 /// How many cases each call accepted; of the answers to inputs, how many were each of the texts; of
-/// closing pages, how many cases each method and basis accepted and each refusal met.
+/// closing pages, how many cases each method and basis accepted and each refusal met; of journals,
+/// how many were made in each way and each refusal met.
 pub type Accepted = BTreeMap<&'static str, u64>;
 
 /// A comparison of one or several calls on the case of a seed.
@@ -26,7 +28,7 @@ pub struct Comparison {
 }
 
 /// All comparisons.
-pub const COMPARISONS: [Comparison; 6] = [
+pub const COMPARISONS: [Comparison; 8] = [
     Comparison {
         name: "files",
         of: files::of_case,
@@ -38,6 +40,14 @@ pub const COMPARISONS: [Comparison; 6] = [
     Comparison {
         name: "writer",
         of: writer::of_case,
+    },
+    Comparison {
+        name: "journals",
+        of: journal::of_case,
+    },
+    Comparison {
+        name: "damaged journals",
+        of: journal::of_damaged,
     },
     Comparison {
         name: "tally",
@@ -82,4 +92,9 @@ pub fn closing_page(
 /// Compares `read_set` on any file and m.
 pub fn read_set(seed: u64, file: &[u8], m: u64) -> Result<(), Difference> {
     files::read_set(seed, file, m).map(|_| ())
+}
+
+/// Compares `replay` on any journal and m.
+pub fn replay(seed: u64, journal: &[u8], m: u64) -> Result<(), Difference> {
+    journal::compare(seed, journal, m).map(|_| ())
 }

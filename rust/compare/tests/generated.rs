@@ -67,6 +67,37 @@ fn writer() {
     the_same("writer", &[("write", 2_000, 200)]);
 }
 
+/// Journals made in every way, and every answer.
+#[test]
+fn journals() {
+    let counts = [
+        ("valid", 1_000, 1_000),
+        ("one fault", 500, 0),
+        ("two faults in one transaction", 150, 0),
+        ("two faulty transactions", 150, 0),
+        ("wrong length", 150, 0),
+        ("wrong m", 150, 0),
+        ("replay", 1_000, 1_000),
+        ("replay refused 1", 150, 0),
+        ("replay refused 16", 500, 0),
+        ("replay refused 17", 200, 0),
+        ("replay refused 18", 150, 0),
+    ];
+    the_same("journals", &counts);
+}
+
+#[test]
+fn damaged_journals() {
+    let counts = [
+        ("replay", 200, 2_000),
+        ("replay refused 1", 150, 0),
+        ("replay refused 16", 800, 0),
+        ("replay refused 17", 200, 0),
+        ("replay refused 18", 50, 0),
+    ];
+    the_same("damaged journals", &counts);
+}
+
 #[test]
 fn tally() {
     the_same("tally", &[]);

@@ -1,24 +1,24 @@
-//! Coverage-guided fuzzing of `respond`, `read_set` and `closing_page` with libFuzzer: each input
-//! is put to the library and to the independent calculation of `reference`, and the answers and the
-//! lent memory are compared bit for bit. New coverage is that of the calculation and of the
-//! library's own machine code.
+//! Coverage-guided fuzzing of `respond`, `read_set`, `closing_page` and `replay` with libFuzzer:
+//! each input is put to the library and to the independent calculation of `reference`, and the
+//! answers and the lent memory are compared bit for bit. New coverage is that of the calculation
+//! and of the library's own machine code.
 
 pub mod blocks;
 mod guarded;
 mod mutate;
 mod system;
 
-pub use mutate::mutate;
+pub use mutate::{change_record, mutate};
 
 use compare::Difference;
 use guarded::Guarded;
 use reference::examples::EXAMPLES;
 use reference::generate::Random;
 
-/// The longest input: a first line and some bytes more than any set has.
-const LONGEST: usize = 10_200;
+/// The longest input: a head and some bytes more than any set or journal has.
+const LONGEST: usize = 65_600;
 
-/// A call to be fuzzed; its input is a head and then a file.
+/// A call to be fuzzed; its input is a head and then a file or a journal.
 pub struct Target {
     /// Compares the call's answer to an input; the seed chooses the memory that is lent.
     pub compare: fn(u64, &[u8]) -> Result<(), Difference>,
@@ -27,6 +27,8 @@ pub struct Target {
     /// How many bytes of an input are its head.
     pub head: fn(&[u8]) -> usize,
     pub any_head: fn(&mut Random) -> Vec<u8>,
+    /// Changes one of the records behind the head.
+    pub change_record: fn(&mut Random, &mut [[u8; 16]]),
 }
 
 /// The number of years and the file of an example of document 01.

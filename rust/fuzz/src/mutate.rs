@@ -1,5 +1,5 @@
-//! Changes of an input that keep it near a set: libFuzzer's own changes alone seldom get past the
-//! length and the records.
+//! Changes of an input that keep it near a set or a journal: libFuzzer's own changes alone seldom
+//! get past the length and the records.
 
 use crate::system::LLVMFuzzerMutate;
 use crate::Target;
@@ -31,7 +31,7 @@ fn change(target: &Target, random: &mut Random, input: &mut Vec<u8>, most: usize
             let (_, file) = input.split_at_mut(head);
             let (records, _) = file.as_chunks_mut::<16>();
             if !records.is_empty() {
-                change_record(random, records);
+                (target.change_record)(random, records);
             }
         }
     }
@@ -57,7 +57,8 @@ fn generated(target: &Target, random: &mut Random) -> Vec<u8> {
     }
 }
 
-fn change_record(random: &mut Random, records: &mut [[u8; 16]]) {
+/// Changes a record of a set's file.
+pub fn change_record(random: &mut Random, records: &mut [[u8; 16]]) {
     let (at, other) = (random.below(records.len()), random.below(records.len()));
     let from = records[other];
     match random.below(12) {

@@ -2,7 +2,11 @@
 //! refusal number, but for [`respond`]: 0 where the call is accepted; a refusal leaves lent memory
 //! as it was.
 
+use crate::JournalTally;
+
 mod foreign {
+    use crate::JournalTally;
+
     extern "C" {
         pub fn pardesul_read_set(
             file: *const u8,
@@ -77,6 +81,12 @@ mod foreign {
             basis: u64,
             page: *mut u8,
             page_len: usize,
+        ) -> u64;
+        pub fn pardesul_replay(
+            journal: *const u8,
+            journal_len: usize,
+            m: usize,
+            tally: *mut JournalTally,
         ) -> u64;
         pub fn pardesul_tally_add(
             rbns: *mut [i64; 38],
@@ -315,6 +325,26 @@ pub fn closing_page(file: &[u8], m: usize, method: u64, basis: u64, page: &mut [
             room,
         )
     }
+}
+
+/// The tally of a claims journal, which has 0 to 4096 transactions of 16 bytes. It starts from
+/// zeros, whatever was handed in.
+///
+/// ```
+/// use pardesul::{calls::replay, JournalTally};
+///
+/// let mut tally = JournalTally::zero();
+/// let report = [7, 1, 0, 0, 0, 1, 2, 0, 0, 0, 0, 0, 0, 0, 0, 0];
+/// assert_eq!(replay(&report, 2, &mut tally), 0);
+/// assert_eq!((tally.claims[263], tally.counts[1], tally.last), (1, 1, 2));
+/// assert_eq!(replay(&report[..15], 2, &mut tally), 16);
+/// assert_eq!((tally.claims[263], tally.counts[1], tally.last), (1, 1, 2));
+/// assert_eq!(replay(&[], 2, &mut tally), 0);
+/// assert_eq!(tally, JournalTally::zero());
+/// ```
+pub fn replay(journal: &[u8], m: usize, tally: &mut JournalTally) -> u64 {
+    // SAFETY: as above. A tally is laid out as in C, and may hold any numbers.
+    unsafe { foreign::pardesul_replay(journal.as_ptr(), journal.len(), m, tally) }
 }
 
 /// Adds a cell to the sums of its calendar year, which stands at place `year` - 1. A year outside 1

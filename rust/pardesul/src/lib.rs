@@ -39,9 +39,24 @@
 //! # Ok::<(), pardesul::Refusal>(())
 //! ```
 //!
+//! Counts and paid may also come from a claims journal, a list of reports and payments:
+//!
+//! ```
+//! use pardesul::{Basis, Journal, Method};
+//!
+//! let mut journal = Journal::new();
+//! journal.report(7, 1, 1).pay(7, 1, 1, 600).pay(7, 1, 2, 400);
+//! journal.report(8, 2, 2).pay(8, 2, 2, 660);
+//! let set = journal.to_set(2)?;
+//! let forecast = set.forecast(Method::Dcl, Basis::Estimated)?;
+//! assert_eq!((forecast.rbns(2, 1), forecast.ibnr(2, 1)), (440, 0));
+//! # Ok::<(), pardesul::Refusal>(())
+//! ```
+//!
 //! The other calls are [`shares`], [`delays`], [`claim_costs`], [`back_test`], [`Tally::add`],
-//! [`closing_page`], the forecast in columns, and [`respond`], the text of the program `closing`.
-//! [`calls`] has the calls themselves, over memory that the caller lends.
+//! [`closing_page`], the forecast in columns, [`replay`], the tally of a journal, and [`respond`],
+//! the text of the program `closing`. [`calls`] has the calls themselves, over memory that the
+//! caller lends.
 //!
 //! The crate links `target/staticlib/libc_api.a` of its repository, which `rt staticlib c_api`
 //! writes.
@@ -53,6 +68,7 @@ pub mod calls;
 mod claim_costs;
 mod closing;
 mod forecast;
+mod journal;
 mod page;
 mod refusal;
 mod shares;
@@ -63,6 +79,7 @@ pub use back_test::{back_test, BackTest};
 pub use claim_costs::{claim_costs, ClaimCosts, Inflation};
 pub use closing::respond;
 pub use forecast::{forecast, Basis, Forecast, Method};
+pub use journal::{replay, Journal, JournalTally};
 pub use page::closing_page;
 pub use refusal::Refusal;
 pub use shares::{delays, shares, Shares};

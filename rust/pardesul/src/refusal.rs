@@ -5,7 +5,7 @@ use std::fmt;
 
 /// What is wrong where question n gets a no, at place n - 1. The header and README.md say the same,
 /// which a test holds.
-const MESSAGES: [&str; 15] = [
+const MESSAGES: [&str; 18] = [
     "m is not 2 to 20",
     "the length is not that of a set",
     "a record has a kind that the length does not allow, a cell outside the triangle, or a byte \
@@ -23,6 +23,9 @@ const MESSAGES: [&str; 15] = [
      incurred g(j) is outside 10^6 to 4 × 10^9",
     "a row base is outside -2 × 10^14 to 2 × 10^14",
     "the page is shorter than 136 × m bytes",
+    "the journal's length is not 0 to 4096 whole transactions, or a transaction has a bad field",
+    "a claim is reported twice, paid before it is reported, or paid under another accident year",
+    "a calendar year is below the one before it, or a cell leaves its range",
 ];
 
 /// The first question that got a no: its number and what is wrong.
@@ -55,7 +58,7 @@ impl Refusal {
         }
     }
 
-    /// The question's number, 1 to 15.
+    /// The question's number, 1 to 18.
     pub fn number(self) -> u64 {
         self.0
     }

@@ -57,7 +57,7 @@ fn every_function_is_called() {
         .filter(|line| !line.starts_with([' ', '/', '#']))
         .filter_map(|line| line.split_once('(')?.0.split(' ').next_back())
         .collect();
-    assert_eq!(functions.len(), 10, "{functions:?}");
+    assert_eq!(functions.len(), 11, "{functions:?}");
     for program in [source("examples.c"), root().join("rust/records/stack.c")] {
         let text = read_to_string(program).unwrap();
         for function in &functions {
@@ -73,6 +73,20 @@ fn header_from_cpp() {
     let checked = compile("c++", &flags, &root().join("include/pardesul.h"), &[]);
     let said = String::from_utf8_lossy(&checked.stderr);
     assert!(checked.status.success(), "{said}");
+}
+
+/// The struct has the same layout in both languages.
+#[test]
+fn layout_of_the_tally() {
+    for (compiler, language) in [
+        ("cc", &["-std=c11"][..]),
+        ("c++", &["-std=c++11", "-x", "c++"]),
+    ] {
+        let flags = [&STRICT[1..], &["-fsyntax-only"], language].concat();
+        let checked = compile(compiler, &flags, &source("layout.c"), &[]);
+        let said = String::from_utf8_lossy(&checked.stderr);
+        assert!(checked.status.success(), "{said}");
+    }
 }
 
 /// An array of the right length is taken without a word, one that is a place short is warned of.

@@ -18,14 +18,14 @@ pub fn section(rows: &[Row]) -> String {
         "\
 ## Speed
 
-Each proved call against two peers on the file of a set of m years, in one run of a release build
-(`rust/bench`): document 01 in plain Rust with 128-bit numbers, and as an expert writes it in safe
-Rust, with one pass over the file, sums that are carried on and 64 bits where they are enough. The
-numbers after a call are its method and basis, and c is the back-test's cut. Instructions are those
-of one call under `valgrind --tool=callgrind`, with the C library copying by moves of 16 bytes
-whatever the machine has. Nanoseconds are the best of {ROUNDS} turns. A ratio is the proved call's
-number over the peer's. A test counts the instructions of the proved calls again, which have to be
-within 3 % of these; the times are not checked.
+Each proved call against two peers on the file of a set of m years, `replay` on a journal of m years
+and 4,096 transactions, in one run of a release build (`rust/bench`): document 01 in plain Rust with
+128-bit numbers, and as an expert writes it in safe Rust, with one pass over the file, sums that are
+carried on and 64 bits where they are enough. The numbers after a call are its method and basis, and
+c is the back-test's cut. Instructions are those of one call under `valgrind --tool=callgrind`, with
+the C library copying by moves of 16 bytes whatever the machine has. Nanoseconds are the best of
+{ROUNDS} turns. A ratio is the proved call's number over the peer's. A test counts the instructions
+of the proved calls again, which have to be within 3 % of these; the times are not checked.
 
 {HEAD}{table}
 The largest ratios at each m, and their calls:

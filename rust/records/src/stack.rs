@@ -8,8 +8,9 @@ use std::process::Command;
 const HEAD: &str = "\
 ## Stack
 
-The most bytes of stack that each C call takes on sets of 20 years, over all its answers, methods,
-bases and cuts (`rust/records/stack.c`), and what the header states, which a test holds.
+The most bytes of stack that each C call takes on sets of 20 years and on journals of 4,096
+transactions, over all its answers, methods, bases and cuts (`rust/records/stack.c`), and what the
+header states, which a test holds.
 
 | call | bytes, taken | stated |
 |---|---|---|

@@ -1,7 +1,8 @@
 //! An independent big-number calculation of document 01: a module for each of its sections, with
-//! its letters, with what document 02 has changed, and one for the closing page of document 02.
-//! Every quantity is a whole number of any size, rounded only where the document rounds, so that
-//! nothing here depends on how large the numbers get.
+//! its letters, with what document 02 has changed, and one each for the closing page and the claims
+//! journal of document 02. Every quantity is a whole number of any size, rounded only where the
+//! document rounds, so that nothing here depends on how large the numbers get; in the journal 64
+//! bits hold any sum.
 
 pub mod back_test;
 pub mod big;
@@ -12,6 +13,7 @@ pub mod examples;
 pub mod forecast;
 pub mod fraction;
 pub mod generate;
+pub mod journal;
 pub mod page;
 pub mod paid_reserve;
 pub mod records;
@@ -26,6 +28,7 @@ pub use calendar::{closing, Tally};
 pub use claim_costs::{claim_costs, ClaimCosts, Inflation};
 pub use delays::delays;
 pub use forecast::{forecast, Forecast};
+pub use journal::{replay, JournalTally, Transaction};
 pub use page::closing_page;
 pub use paid_reserve::{demand3, ReserveDistance};
 pub use records::{read_set, write_set, Refusal, Set};

@@ -95,7 +95,7 @@ pub fn file_length(m: usize, has_incurred: bool) -> usize {
 }
 
 /// Question 1.
-fn question_1(m: u64) -> Result<usize, Refusal> {
+pub fn question_1(m: u64) -> Result<usize, Refusal> {
     if (2..=20).contains(&m) {
         Ok(m as usize)
     } else {

@@ -10,7 +10,8 @@ fn is_outside(kind: usize, value: i64) -> bool {
     value.wrapping_sub(LEAST[kind]) as u64 > SPAN[kind]
 }
 
-fn word(half: &[u8]) -> u64 {
+/// Eight bytes as a number, least byte first.
+pub fn word(half: &[u8]) -> u64 {
     u64::from_le_bytes(half.try_into().unwrap())
 }
 

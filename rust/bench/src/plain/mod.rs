@@ -1,11 +1,13 @@
 //! Document 01 in plain Rust with 128-bit numbers, a module for each of its sections, and the
-//! closing page of document 02. It asks the same questions in the same order.
+//! closing page and the claims journal of document 02. It asks the same questions in the same
+//! order.
 
 mod back_test;
 mod claim_costs;
 mod closing;
 mod delays;
 mod forecast;
+mod journal;
 mod page;
 mod records;
 mod row_bases;
@@ -16,6 +18,7 @@ pub use claim_costs::{claim_costs, ClaimCosts, Inflation};
 pub use closing::{first_line, respond};
 pub use delays::delays;
 pub use forecast::{forecast, question_6};
+pub use journal::{replay, JournalTally};
 pub use page::closing_page;
 pub use records::{read_set, write_set, Set};
 pub use row_bases::RowBases;

@@ -21,7 +21,8 @@ impl Set {
     }
 }
 
-const RANGES: [RangeInclusive<i64>; 3] = [
+/// The values that each kind may have.
+pub const RANGES: [RangeInclusive<i64>; 3] = [
     0..=10_000_000,
     0..=10_000_000_000,
     -10_000_000_000..=10_000_000_000,

@@ -3,7 +3,7 @@
 #![no_main]
 
 use compare::Difference;
-use fuzz::{any_example, any_m, fuzz, Target};
+use fuzz::{any_example, any_m, change_record, fuzz, Target};
 use reference::generate::{case, Random};
 use reference::page::page_length;
 
@@ -19,6 +19,7 @@ const CLOSING_PAGE: Target = Target {
         let (method, basis) = (random.between(0, 3) as u64, random.between(0, 2) as u64);
         head(random, [m, method, basis])
     },
+    change_record,
 };
 
 fuzz!(CLOSING_PAGE);

@@ -3,7 +3,7 @@
 #![no_main]
 
 use compare::Difference;
-use fuzz::{any_example, any_m, fuzz, Target};
+use fuzz::{any_example, any_m, change_record, fuzz, Target};
 use reference::generate::{case, Random};
 
 const READ_SET: Target = Target {
@@ -11,6 +11,7 @@ const READ_SET: Target = Target {
     generate,
     head: |input| input.len().min(8),
     any_head: |random| any_m(random).to_le_bytes().to_vec(),
+    change_record,
 };
 
 fuzz!(READ_SET);

@@ -1,7 +1,7 @@
 //! `respond` on any bytes: the head is the first line.
 #![no_main]
 
-use fuzz::{any_example, fuzz, Target};
+use fuzz::{any_example, change_record, fuzz, Target};
 use reference::generate::{closing_input, Random};
 
 const RESPOND: Target = Target {
@@ -12,6 +12,7 @@ const RESPOND: Target = Target {
         None => 0,
     },
     any_head,
+    change_record,
 };
 
 fuzz!(RESPOND);

@@ -1,5 +1,6 @@
-/* The examples of document 01 from C: every function of the header, accepted and refused, and what
- * a refusal leaves. Prints the first thing that is wrong and ends with status 1, or ends with 0. */
+/* The examples of document 01 from C, and a claims journal: every function of the header, accepted
+ * and refused, and what a refusal leaves. Prints the first thing that is wrong and ends with status
+ * 1, or ends with 0. */
 #include "pardesul.h"
 #include <stdio.h>
 #include <stdlib.h>
@@ -335,6 +336,107 @@ static void closing_page(void) {
          "a page with negative amounts");
 }
 
+enum { REPORTED = 0, PAID = 1 };
+
+/* Puts a transaction to the end of a journal. */
+static void put(uint8_t *journal, size_t *length, uint32_t claim, uint8_t kind, uint8_t accident,
+                uint8_t calendar, int64_t amount) {
+  uint8_t *at = journal + *length;
+  for (int byte = 0; byte < 4; byte++) at[byte] = (uint8_t)(claim >> 8 * byte);
+  at[4] = kind;
+  at[5] = accident;
+  at[6] = calendar;
+  at[7] = 0;
+  for (int byte = 0; byte < 8; byte++) at[8 + byte] = (uint8_t)((uint64_t)amount >> 8 * byte);
+  *length += PARDESUL_TRANSACTION;
+}
+
+/* A journal of two years whose tally is known, with room for one transaction more. */
+typedef struct {
+  size_t length;
+  uint8_t bytes[8 * PARDESUL_TRANSACTION];
+} journal;
+
+static journal two_years(void) {
+  journal of = {0};
+  put(of.bytes, &of.length, 263, REPORTED, 1, 1, 0);
+  put(of.bytes, &of.length, 263, PAID, 1, 1, 600);
+  put(of.bytes, &of.length, 0, REPORTED, 1, 2, 0);
+  put(of.bytes, &of.length, 4095, REPORTED, 2, 2, 0);
+  put(of.bytes, &of.length, 263, PAID, 1, 2, 399);
+  put(of.bytes, &of.length, 0, PAID, 1, 2, 1);
+  put(of.bytes, &of.length, 4095, PAID, 2, 2, 10000000000);
+  return of;
+}
+
+/* The refusal of that journal and one transaction behind it, which has to leave the tally. */
+static uint64_t refusal(uint32_t claim, uint8_t kind, uint8_t accident, uint8_t calendar,
+                        int64_t amount) {
+  journal of = two_years();
+  pardesul_journal_tally tally;
+  memset(&tally, BEFORE, sizeof tally);
+  put(of.bytes, &of.length, claim, kind, accident, calendar, amount);
+  const uint64_t number = pardesul_replay(of.bytes, of.length, 2, &tally);
+  expect(untouched(&tally, sizeof tally) == (number != 0), "what a refused journal leaves");
+  return number;
+}
+
+static void replay(void) {
+  static uint8_t reports[(PARDESUL_JOURNAL_MOST + 1) * PARDESUL_TRANSACTION];
+  const journal of = two_years();
+  pardesul_journal_tally tally, wanted;
+  set_file file = {.m = 2, .length = PARDESUL_FILE_LENGTH(2, false)};
+  size_t length = 0;
+  memset(&tally, BEFORE, sizeof tally);
+  expect(pardesul_replay(of.bytes, of.length, 21, &tally) == PARDESUL_REFUSED_YEARS &&
+             pardesul_replay(of.bytes, of.length - 1, 1, &tally) == PARDESUL_REFUSED_YEARS,
+         "a journal of 21 years, or of one");
+  expect(pardesul_replay(of.bytes, of.length - 1, 2, &tally) == PARDESUL_REFUSED_TRANSACTION,
+         "a journal that is a byte short");
+  expect(untouched(&tally, sizeof tally), "what a refused length leaves");
+
+  expect(refusal(4096, REPORTED, 1, 2, 0) == PARDESUL_REFUSED_TRANSACTION, "claim 4096");
+  expect(refusal(1, 2, 1, 2, 0) == PARDESUL_REFUSED_TRANSACTION, "kind 2");
+  expect(refusal(1, REPORTED, 2, 1, 0) == PARDESUL_REFUSED_TRANSACTION, "before the accident");
+  expect(refusal(1, REPORTED, 1, 2, 1) == PARDESUL_REFUSED_TRANSACTION, "a report with an amount");
+  expect(refusal(0, PAID, 1, 2, -1) == PARDESUL_REFUSED_TRANSACTION, "a payment below zero");
+  expect(refusal(263, REPORTED, 2, 2, 0) == PARDESUL_REFUSED_CLAIM, "a claim reported twice");
+  expect(refusal(1, PAID, 1, 2, 0) == PARDESUL_REFUSED_CLAIM, "a claim paid unreported");
+  expect(refusal(4095, PAID, 1, 2, 1) == PARDESUL_REFUSED_CLAIM, "a claim paid under another year");
+  expect(refusal(1, REPORTED, 1, 1, 0) == PARDESUL_REFUSED_BOOKING, "a year below the one before");
+  expect(refusal(4095, PAID, 2, 2, 1) == PARDESUL_REFUSED_BOOKING, "a cell above 10^10");
+  expect(refusal(4095, PAID, 2, 2, 0) == PARDESUL_ACCEPTED, "a payment of nothing");
+
+  memset(&tally, BEFORE, sizeof tally);
+  expect(pardesul_replay(of.bytes, of.length, 2, &tally) == PARDESUL_ACCEPTED, "the journal");
+  memset(&wanted, 0, sizeof wanted);
+  wanted.claims[263] = wanted.claims[0] = 1;
+  wanted.claims[4095] = 2;
+  fill(wanted.counts, 2, (int64_t[]){1, 1, 1});
+  fill(wanted.paid, 2, (int64_t[]){600, 400, 10000000000});
+  wanted.last = 2;
+  expect(memcmp(&tally, &wanted, sizeof tally) == 0, "the tally of the journal");
+  expect(pardesul_write_set(2, false, tally.counts, tally.paid, tally.paid, file.bytes,
+                            file.length) == PARDESUL_ACCEPTED,
+         "the set of the journal");
+
+  for (uint32_t claim = 0; claim < PARDESUL_CLAIMS; claim++)
+    put(reports, &length, claim, REPORTED, 1, 1, 0);
+  expect(pardesul_replay(reports, length, 20, &tally) == PARDESUL_ACCEPTED &&
+             tally.counts[PARDESUL_PLACE(1, 0)] == 4096 && tally.claims[263] == 1 &&
+             tally.paid[PARDESUL_PLACE(1, 0)] == 0 && tally.last == 1,
+         "4096 reports");
+  wanted = tally;
+  put(reports, &length, 0, PAID, 1, 1, 0);
+  expect(pardesul_replay(reports, length, 20, &tally) == PARDESUL_REFUSED_TRANSACTION &&
+             memcmp(&tally, &wanted, sizeof tally) == 0,
+         "4097 transactions");
+  memset(&wanted, 0, sizeof wanted);
+  expect(pardesul_replay(reports, 0, 2, &tally) == PARDESUL_ACCEPTED &&
+             memcmp(&tally, &wanted, sizeof tally) == 0,
+         "a journal without transactions");
+}
+
 static void tally(void) {
   int64_t rbns[PARDESUL_YEARS] = {0}, ibnr[PARDESUL_YEARS] = {0}, before[PARDESUL_YEARS];
   pardesul_tally_add(rbns, ibnr, 1, 63, 0);
@@ -381,6 +483,7 @@ int main(void) {
   forecast();
   back_test();
   closing_page();
+  replay();
   tally();
   respond();
   return 0;

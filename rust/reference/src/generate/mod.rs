@@ -1,13 +1,17 @@
-//! Seeded sets, files and calls for tests and comparisons: tidy ones, ones at every limit, and
-//! ones that each question refuses.
+//! Seeded sets, files, journals and calls for tests and comparisons: tidy ones, ones at every
+//! limit, and ones that each question refuses.
 
 mod damage;
 mod edges;
+mod faults;
 mod incurred;
+mod journals;
 mod patterns;
 mod random;
 mod sets;
 
+pub use faults::{Fault, PAIRS};
+pub use journals::{any_journal, journal_case, JournalCase, Made, Spot};
 pub use random::Random;
 pub use sets::any_set;
 

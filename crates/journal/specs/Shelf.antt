@@ -1,0 +1,74 @@
+-- The triangles of an accepted journal are a set that the writer takes, for want of nothing but
+-- room, and that reads back the same. Assumes nothing.
+use Prim.Native.Nat.{ℕ, _+_, _-_, _*_, _≤_}
+use native.Mathlib.Omega.{arith}
+use mathlib.Core.Path.{_≡_, subst}
+use mathlib.Core.Bool.{true, false, cond}
+use mathlib.Core.List.{List}
+use lib.IntN.{ℤ, pos}
+use lib.ListN.{replicate}
+use Rattle.model.specs.Records.{cell, triangle, givenSet, inRange, records}
+use Rattle.model.specs.RecordsLaws.{cell-triangle, triangle-ext}
+use Rattle.model.specs.Questions.{firstNo, q1, eachCell, q5Writer, q7Writer}
+use Rattle.model.specs.QuestionsLaws.{eachCell-all}
+use Rattle.model.specs.Lengths.{size-so}
+use Rattle.model.specs.SetFile.{fileOf}
+use Rattle.model.specs.Journal.{reports, payments}
+use Rattle.model.specs.Calls.{readAnswer, acceptedRead, writeRefusal, replayRefusal}
+use Rattle.model.specs.Tests.{by-test}
+use Rattle.model.specs.declared.TriangleSet.{TriangleSet}
+use Rattle.set_file.specs.RoundTrip.{read-back}
+use Rattle.journal.specs.ByCell.{counts-ranged, paid-ranged}
+use Rattle.journal.specs.Replays.{all-accepted, counts-after, paid-after}
+
+-- the set of a journal, without incurred
+unfoldable pub journalSet : ℕ → List ℕ → TriangleSet
+journalSet m f =
+    record {
+      «has_incurred» = false;
+      counts = triangle m (reports f);
+      paid = triangle m (payments f);
+      incurred = replicate 400 (pos 0);
+    }
+
+module _ (m : ℕ) (f : List ℕ) (accepted : replayRefusal m f ≡ 0) where
+  size : q1 m ≡ true
+  size = all-accepted m f accepted .0
+
+  few : m ≤ 20
+  few = size-so m size .1
+
+  counts-ok : eachCell m (λ i j. inRange 0 (cell (triangle m (reports f)) i j)) ≡ true
+  counts-ok =
+      eachCell-all m _ (λ i j h l. subst (λ (a : List ℤ). inRange 0 (cell a i j) ≡ true) (counts-after m f accepted)
+      (counts-ranged m f size (records f) (all-accepted m f accepted .1) (20 * (i - 1) + j) (omega (arith, few))))
+
+  paid-ok : eachCell m (λ i j. inRange 1 (cell (triangle m (payments f)) i j)) ≡ true
+  paid-ok =
+      eachCell-all m _ (λ i j h l. subst (λ (a : List ℤ). inRange 1 (cell a i j) ≡ true) (paid-after m f accepted)
+      (paid-ranged m f size (records f) (all-accepted m f accepted .1) (20 * (i - 1) + j) (omega (arith, few))))
+
+  -- question 5 of the writer, whatever is lent as incurred
+  pub journal-in-range : (e : List ℤ) → q5Writer m false (triangle m (reports f)) (triangle m (payments f)) e ≡ true
+  unfolding q5Writer
+  journal-in-range e = rw (counts-ok, paid-ok)
+
+  -- the writer refuses them only for want of room
+  pub room-only : (e : List ℤ) (room : ℕ) → writeRefusal m false (triangle m (reports f)) (triangle m (payments f)) e room ≡ cond (q7Writer m false room) 0 7
+  unfolding writeRefusal firstNo
+  room-only e room = rw (size, journal-in-range e) (by-test (q7Writer m false room) (λ y. rw y) (λ y. rw y))
+
+  same : (v : ℕ → ℕ → ℤ) → triangle m (cell (triangle m v)) ≡ triangle m v
+  same v = triangle-ext m (cell (triangle m v)) v (λ i j h l. cell-triangle m v i j few h l)
+
+  -- what the writer is given is the journal's set
+  pub journal-given : (e : List ℤ) → givenSet m false (triangle m (reports f)) (triangle m (payments f)) e ≡ journalSet m f
+  unfolding givenSet journalSet
+  journal-given e = rw (same (reports f), same (payments f))
+
+  -- and the reader hands back the same of its file
+  pub journal-back : readAnswer m (fileOf m (journalSet m f)) ≡ acceptedRead (journalSet m f)
+  journal-back =
+      let none = replicate 400 (pos 0) in
+      subst (λ (s : TriangleSet). readAnswer m (fileOf m s) ≡ acceptedRead s) (journal-given none)
+      (read-back m (triangle m (reports f)) (triangle m (payments f)) none size false (journal-in-range none))

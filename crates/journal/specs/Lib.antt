@@ -4,5 +4,5 @@ pub mod Fields
 pub mod Turns
 pub mod ByCell
 pub mod Replays
-pub mod Shelf
+pub mod JournalSet
 pub mod Reported

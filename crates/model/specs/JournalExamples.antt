@@ -11,7 +11,7 @@ use Rattle.model.specs.Records.{triangle, leastFirst, signed, valueAt, i
 use Rattle.model.specs.Questions.{firstNo, q1}
 use Rattle.model.specs.SetFile.{bytes}
 use Rattle.model.specs.Journal.{transactionAt, q16, q17, q18, ofBooking, ofTransaction, booked, noTally, tallyAfter, q16Length, ofTransactions, isEntry, reports, payments}
-use Rattle.model.specs.Calls.{replayRefusal, replayTally}
+use Rattle.model.specs.Calls.{ofStep, replayRefusal, replayTally}
 use Rattle.model.specs.declared.JournalTally.{JournalTally}
 
 -- the bytes of a transaction, s being its unused byte and x the word of its amount
@@ -38,6 +38,10 @@ rows a b c d e f = (pos a ∷ pos b ∷ pos c ∷ []) ++ replicate 17 (pos 0) ++
 unfoldable pub handed : JournalTally
 handed = record { claims = replicate 4096 3; counts = replicate 400 (pos 2); paid = replicate 400 (pos 1); last = 3 }
 
+-- one with cells at the end of the signed 64-bit numbers
+unfoldable pub overfull : JournalTally
+overfull = record { claims = replicate 4096 3; counts = replicate 400 (pos 0); paid = replicate 400 (pos (2 ^ 63 - 1)); last = 3 }
+
 unfoldable pub opened-journal : ℕ
 unfolding
     sum tabulate chained total count triangle leastFirst signed valueAt inRange firstNo q1 bytes
@@ -54,9 +58,11 @@ unfolding opened-journal
 replayed = (refl, refl, refl, refl, refl, refl, refl)
 
 -- its cells over the whole list
-pub by-cell : (triangle 3 (reports journal) ≡ rows 1 1 0 1 0 0) × (triangle 3 (payments journal) ≡ rows 0 500 100 0 9 0)
+pub by-cell :
+    (reports journal 1 1 ≡ pos 1) × (payments journal 1 2 ≡ pos 100)
+    × (triangle 3 (reports journal) ≡ rows 1 1 0 1 0 0) × (triangle 3 (payments journal) ≡ rows 0 500 100 0 9 0)
 unfolding opened-journal
-by-cell = (refl, refl)
+by-cell = (refl, refl, refl, refl)
 
 -- a journal of nothing clears the tally, a refused one leaves it
 pub cleared : (replayTally 2 [] handed .last ≡ 0) × (replayTally 2 [] handed ≡ noTally) × (replayTally 2 (pay 7 1 1 5) handed ≡ handed)
@@ -96,6 +102,13 @@ pub bookings :
     × (replayRefusal 2 (report 7 1 1 ++ pay 7 1 1 (10 ^ 10) ++ pay 7 1 1 1) ≡ 18)
 unfolding opened-journal
 bookings = (refl, refl, refl)
+
+-- one transaction: 1 before 16, and a tally that no journal comes to, whose cells are full already
+pub steps :
+    (firstNo (ofStep 21 handed (transactionAt (report 4096 1 1) 0)) ≡ 1) × (firstNo (ofStep 3 handed (transactionAt (pay 7 3 3 1) 0)) ≡ 0)
+    × (firstNo (ofStep 3 overfull (transactionAt (pay 7 3 3 1) 0)) ≡ 18)
+unfolding opened-journal overfull
+steps = (refl, refl, refl)
 
 -- the first bad transaction rules, and in it the lowest number
 pub order :

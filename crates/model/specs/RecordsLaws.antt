@@ -33,6 +33,10 @@ triangle-ext m v w h =
     tabulate-ext 400 _ _
     (λ p l. by-test (inside m (p / 20 + 1) (p % 20)) (λ y. let b = inside-so m (p / 20 + 1) (p % 20) y in rw (y, h (p / 20 + 1) (p % 20) (b .0) (b .1))) (λ y. rw y))
 
+-- the cells of a triangle make it again
+pub triangle-again : (m : ℕ) (v : ℕ → ℕ → ℤ) → m ≤ 20 → triangle m (cell (triangle m v)) ≡ triangle m v
+triangle-again m v few = triangle-ext m _ _ (λ i j. cell-triangle m v i j few)
+
 -- a triangle of zeros
 pub triangle-zeros : (m : ℕ) (v : ℕ → ℕ → ℤ) → ((i j : ℕ) → v i j ≡ pos 0) → triangle m v ≡ replicate 400 (pos 0)
 unfolding triangle

@@ -11,7 +11,7 @@ use lib.ListN.{length, drop, replicate}
 use Rattle.integers.specs.Sums.{sum-nothing}
 use Rattle.model.specs.ListsLaws.{every-at, and-left}
 use Rattle.model.specs.Records.{cell, kindAt, records, isOf, valueOf, setLength, hasIncurred, triangle, setOf, givenSet}
-use Rattle.model.specs.RecordsLaws.{cell-triangle, triangle-ext, triangle-zeros}
+use Rattle.model.specs.RecordsLaws.{triangle-again, triangle-zeros}
 use Rattle.model.specs.Questions.{q2, q3, q7Writer, kinds, recordOk, firstNo, ofRecords, ofFile}
 use Rattle.model.specs.QuestionsLaws.{EachYes, numbered, each-yes}
 use Rattle.model.specs.Lengths.{size-so, length-so}
@@ -54,7 +54,7 @@ module _ (m : ℕ) (f : List ℕ) (accepted : readRefusal m f ≡ 0) where
   set-given = rw (again 0, again 1, last)
     where
       again : (t : ℕ) → triangle m (cell (triangle m (valueOf f t))) ≡ triangle m (valueOf f t)
-      again t = triangle-ext m _ _ (λ i j. cell-triangle m (valueOf f t) i j (size-so m (writable m f accepted .0) .1))
+      again t = triangle-again m (valueOf f t) (size-so m (writable m f accepted .0) .1)
 
       last : cond (hasIncurred m f) (triangle m (cell (triangle m (valueOf f 2)))) (replicate 400 (pos 0)) ≡ triangle m (valueOf f 2)
       last = by-test (hasIncurred m f) (λ e. rw e (again 2)) (λ e. rw e (sym (triangle-zeros m (valueOf f 2) (none e))))

@@ -1,5 +1,5 @@
--- The order of the records changes no call's answer: the set and the questions are the same. Assumes
--- nothing.
+-- The order of the records changes no call's answer: the set and the questions are the same.
+-- Assumes nothing.
 use mathlib.Core.Path.{_≡_}
 use mathlib.Core.List.{List}
 use Prim.Native.Nat.{ℕ}

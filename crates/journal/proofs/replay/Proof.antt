@@ -1,7 +1,7 @@
--- `replay` meets its contract: a walk of its MIR, by hand. A tally of zeros is made in a local; each
--- turn of the loop lends it to `step` for a lifetime that the walk makes, and takes it back at the
--- last value that `step` names; where no transaction was refused, the caller's borrow is opened and
--- closed at it. The laws of `Replays` say what the number and the tally are at each turn
+-- `replay` meets its contract: a walk of its MIR, by hand. A tally of zeros is made in a local;
+-- each turn of the loop lends it to `step` for a lifetime that the walk makes, and takes it back at
+-- the last value that `step` names; where no transaction was refused, the caller's borrow is opened
+-- and closed at it. The laws of `Replays` say what the number and the tally are at each turn
 -- (`Reached`) and at the end. Assumes nothing.
 use mathlib.Core.Path.{_≡_, refl, sym, _∙_, ap, subst}
 use mathlib.Core.Bool.{Bool, true, false, not, _&&_}
@@ -304,7 +304,7 @@ module _ {M : Type 1} (𝓤 : URA M) (H : Heap 𝓤) (A : Atoms 𝓤) (W : Given
     read-of : (x : Transaction) → ent 𝓤 (ensured 𝓤 H A transaction-at.ended (transaction-at.clauses 𝓤 H A at-mem run) (κ, tt) (f, (i .k, tt)) tt x) (fact 𝓤 (x ≡ transactionAt (f .now) (i .k)))
     read-of x = exE 𝓤 _ (λ ws. snd∗ 𝓤 (sem 𝓤 H A (lasts transaction-at.ended (κ, tt) (f, (i .k, tt)) ws)) (fact 𝓤 (x ≡ transactionAt (f .now) (i .k))))
 
-  -- ---- the call of `step`, at the transaction x and the tally d in the block c, lent for α under δ
+  -- ---- the call of `step`, at the transaction x, and the tally d in block c, lent for α under δ
   module _ (α c : ℕ) (δ : GName) (d : JournalTally) (x : Transaction) where
     abbrev lent : RefT JournalTally
     lent = record { ptr = (c, 0); name = δ; now = d }
@@ -360,7 +360,7 @@ module _ {M : Type 1} (𝓤 : URA M) (H : Heap 𝓤) (A : Atoms 𝓤) (W : Given
       En =
           (word, l₀) ∷ (slice, l₁) ∷ (word, l₂) ∷ (lender, l₃) ∷ (T′.mir, l₄) ∷ (word, l₅) ∷ (word, l₆) ∷ (X′.mir, l₇) ∷ (T′.mir, l₈) ∷ (tyBool, l₉) ∷ (ref, l₁₀) ∷ (tyBool, l₁₁) ∷ (T′.mir, l₁₂) ∷ []
 
-      -- the invariant: [the slice's; its token; obs; the borrow; its token; _12; …; _11; …; .. _0; …]
+      -- the invariant: [the slice's; its token; obs; the borrow; its token; _12; …; .. _0; …]
       abbrev At : Start → List (Item 𝓤)
       At i =
           ‵ Own ∷ ‵ (flft κ q) ∷ ‵ (fobs γ (R .coded .code h)) ∷ ‵ (fbor κ′ (Body (mem R) b o γ)) ∷ ‵ (flft κ′ q′)
@@ -458,7 +458,7 @@ module _ {M : Type 1} (𝓤 : URA M) (H : Heap 𝓤) (A : Atoms 𝓤) (W : Given
         assigns ! (of-opd ! (load ! (from ! (stop !)) (look ! 9 refl))) (from ! (stop !)) (init ! 17 refl (LL.lawful T.the-type T′.the-laws 𝓤 H A W .typed d _ (spelled d v isd) .0)) $ forget ! 9 refl $ drop ! $
         -- what the parameters own, and the tokens
         move ! (27 ∷ []) $ fsplit ! $ move ! (1 ∷ []) $ fsplit ! $ drop ! $ fsplit ! $ fsplit3 ! $ drop ! $ move ! (30 ∷ []) $ split ! $ move ! (1 ∷ []) $ split ! $
-        -- [the borrow's token; true; the slice's token; obs; the borrow; true; the slice's; _12; ..]
+        -- [the borrow's token; true; the slice's token; obs; the borrow; true; the slice's; ..]
         move ! (6 ∷ []) $ use1 W (‵ Own ⊛ ‵ Own) twice $ split ! $ move ! (4 ∷ 3 ∷ 0 ∷ []) $ join ! $ use2 W (raw (Framed 𝓤 H A at-mem run .pre to-framed)) goes-framed $
         calls-at ! fm (Framed 𝓤 H A at-mem run) known-framed to-framed (and-then ! (load ! (from ! (stop !)) (look ! 28 refl)) (and-then ! (load ! (from ! (stop !)) (look ! 26 refl)) (no-more !))) (λ w.
         use1 W (later (some (λ (r : ℕ). (Token ⊛ ‵ (u64 .own r (w ∷ []))) ⊛ raw (ensured 𝓤 H A framed.ended (framed.clauses 𝓤 H A at-mem run) (κ, tt) (f, (m, tt)) tt r)))) (id⊢ 𝓤 _) $ await ! tt $ pick ! (λ r.

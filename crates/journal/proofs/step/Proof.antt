@@ -1,7 +1,7 @@
 -- `step` meets its contract: a walk of its MIR, by hand. The borrow is opened, and the tally in
--- memory is taken apart into its four fields (`Apart`). Each field is lent to `enter` for a lifetime
--- of its own, and taken back at the last value that `enter` names; the fields are put together, and
--- the borrow is closed at the tally that they are. Assumes nothing.
+-- memory is taken apart into its four fields (`Apart`). Each field is lent to `enter` for a
+-- lifetime of its own, and taken back at the last value that `enter` names; the fields are put
+-- together, and the borrow is closed at the tally that they are. Assumes nothing.
 use mathlib.Core.Path.{refl, ap}
 use Prim.Native.Nat.{ℕ, _+_, _<_, _^_}
 use mathlib.Core.List.{[], _∷_, List}
@@ -203,7 +203,7 @@ module _ {M : Type 1} (𝓤 : URA M) (H : Heap 𝓤) (A : Atoms 𝓤) (W : Given
         split ! $ move ! (1 ∷ []) $ heard ! (Says α β χ ψ δ ε ζ η ws u) (λ e. move ! (1 ∷ []) $ split ! $ move ! (1 ∷ []) $ peeks ! u64 (Is u64) (shows 𝓤 H A u64) u (w ∷ []) (λ is.
         land ! (from ! (stop !)) (init ! 27 refl (uint-lawful 𝓤 H A W w64 .typed u _ is .0)) $ rewrite ! 27 (λ (v : Val). ‵ (fat fullShare (tyInt w64) l₀ 0 v)) (ap only (is .0)) refl $ drop ! $
         -- each field comes back at its last value
-        -- [the tokens; the last values; the lender's parts of claims; counts; paid; last; the way back; ..]
+        -- [the tokens; the last values; the lender's parts of claims; counts; paid; last; ..]
         split ! $ lft-end ! tt $ move ! (2 ∷ []) $ fsplit ! $ move ! (2 ∷ 4 ∷ 0 ∷ []) $ use3 W (later (‵ (mem Claims .lies (ws .0) b (o + 0)))) (ref-back 𝓤 H A W Claims (α ∷ []) δ (ws .0) b (o + 0)) $ await ! tt $
         move ! (2 ∷ []) $ split ! $ lft-end ! tt $ move ! (3 ∷ []) $ fsplit ! $ move ! (2 ∷ 5 ∷ 0 ∷ []) $ use3 W (later (‵ (mem Cells .lies (ws .1 .0) b (o + 4096)))) (ref-back 𝓤 H A W Cells (β ∷ []) ε (ws .1 .0) b (o + 4096)) $ await ! tt $
         move ! (2 ∷ []) $ split ! $ lft-end ! tt $ move ! (3 ∷ []) $ fsplit ! $ move ! (2 ∷ 6 ∷ 0 ∷ []) $ use3 W (later (‵ (mem Cells .lies (ws .1 .1 .0) b (o + 7296)))) (ref-back 𝓤 H A W Cells (χ ∷ []) ζ (ws .1 .1 .0) b (o + 7296)) $ await ! tt $

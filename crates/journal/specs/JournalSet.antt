@@ -1,5 +1,5 @@
--- The triangles of an accepted journal are a set that the writer takes, for want of nothing but
--- room, and that reads back the same. Assumes nothing.
+-- The triangles of an accepted journal are a set: the writer refuses it for nothing but want of
+-- room, and it reads back the same. Assumes nothing.
 use Prim.Native.Nat.{ℕ, _+_, _-_, _*_, _≤_}
 use native.Mathlib.Omega.{arith}
 use mathlib.Core.Path.{_≡_, subst}
@@ -8,7 +8,7 @@ use mathlib.Core.List.{List}
 use lib.IntN.{ℤ, pos}
 use lib.ListN.{replicate}
 use Rattle.model.specs.Records.{cell, triangle, givenSet, inRange, records}
-use Rattle.model.specs.RecordsLaws.{cell-triangle, triangle-ext}
+use Rattle.model.specs.RecordsLaws.{triangle-again}
 use Rattle.model.specs.Questions.{firstNo, q1, eachCell, q5Writer, q7Writer}
 use Rattle.model.specs.QuestionsLaws.{eachCell-all}
 use Rattle.model.specs.Lengths.{size-so}
@@ -53,18 +53,15 @@ module _ (m : ℕ) (f : List ℕ) (accepted : replayRefusal m f ≡ 0) where
   unfolding q5Writer
   journal-in-range e = rw (counts-ok, paid-ok)
 
-  -- the writer refuses them only for want of room
+  -- the writer's refusal: 7 for want of room, and nothing else
   pub room-only : (e : List ℤ) (room : ℕ) → writeRefusal m false (triangle m (reports f)) (triangle m (payments f)) e room ≡ cond (q7Writer m false room) 0 7
   unfolding writeRefusal firstNo
   room-only e room = rw (size, journal-in-range e) (by-test (q7Writer m false room) (λ y. rw y) (λ y. rw y))
 
-  same : (v : ℕ → ℕ → ℤ) → triangle m (cell (triangle m v)) ≡ triangle m v
-  same v = triangle-ext m (cell (triangle m v)) v (λ i j h l. cell-triangle m v i j few h l)
-
   -- what the writer is given is the journal's set
   pub journal-given : (e : List ℤ) → givenSet m false (triangle m (reports f)) (triangle m (payments f)) e ≡ journalSet m f
   unfolding givenSet journalSet
-  journal-given e = rw (same (reports f), same (payments f))
+  journal-given e = rw (triangle-again m (reports f) few, triangle-again m (payments f) few)
 
   -- and the reader hands back the same of its file
   pub journal-back : readAnswer m (fileOf m (journalSet m f)) ≡ acceptedRead (journalSet m f)

@@ -57,7 +57,7 @@ ofRows c d e = record { «has_incurred» = true; counts = rowsOf c; paid = rowsO
 abbrev counts3 : List (List ℤ)
 counts3 = (pos 80 ∷ pos 20 ∷ pos 10 ∷ []) ∷ (pos 90 ∷ pos 25 ∷ []) ∷ (pos 100 ∷ []) ∷ []
 
--- the set of `negative`
+-- the set of `negative` (`rewritten` of FurtherCalls holds it to that file)
 unfoldable pub negativeSet : TriangleSet
 negativeSet =
     ofRows counts3 ((pos 600 ∷ pos 400 ∷ pos 50 ∷ []) ∷ (pos 660 ∷ pos 430 ∷ []) ∷ (pos 700 ∷ []) ∷ [])

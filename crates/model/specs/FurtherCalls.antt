@@ -14,7 +14,7 @@ use Rattle.model.specs.Questions.{q1, q8}
 use Rattle.model.specs.SetFile.{word, recordOf, fileOf}
 use Rattle.model.specs.Calls.{readAnswer, writeRefusal, writeOutput, refusedRead, refusedForecast, forecastAnswer, forecastOutput, acceptedBackTest, refusedBackTest, backTestOf, backTestAnswer}
 use Rattle.model.specs.Examples.{two}
-use Rattle.model.specs.Further.{K, negative, less, ofRows, four, lentCells, refused, opened-further}
+use Rattle.model.specs.Further.{K, negative, negativeSet, less, ofRows, four, lentCells, refused, opened-further}
 use Rattle.model.specs.declared.TriangleSet.{TriangleSet}
 use Rattle.model.specs.declared.Tally.{Tally}
 
@@ -111,12 +111,13 @@ pub outputs : (output true 146 ≡ K ++ (7 ∷ 7 ∷ [])) × (output false 96 �
 unfolding opened-further
 outputs = (refl, refl, refl)
 
--- a file of m = 3 in that order, and K's records in another one, read and written
+-- a file of m = 3 in that order, as its set's file and read and written; K's records in another
+-- one, read and written
 pub rewritten :
-    (fileOf 3 (setOf 3 negative) ≡ negative)
+    (fileOf 3 negativeSet ≡ negative) × (fileOf 3 (setOf 3 negative) ≡ negative)
     × (fileOf 2 (setOf 2 (two 2 900 100 1080 ++ recordOf 1 2 0 660 ++ recordOf 0 1 1 20 ++ recordOf 0 1 0 80 ++ recordOf 1 1 1 400 ++ recordOf 0 2 0 90 ++ recordOf 1 1 0 600)) ≡ K)
 unfolding opened-further
-rewritten = (refl, refl)
+rewritten = (refl, refl, refl)
 
 -- byte by byte: incurred of -2 in year 1 at delay 1, and 10^10 paid in year 2
 pub record-bytes :

@@ -30,7 +30,7 @@ unfoldable pub journal : List ℕ
 journal =
     report 7 1 1 ++ report 4095 1 2 ++ pay 7 1 2 500 ++ report 256 2 2 ++ pay 4095 1 3 40 ++ pay 256 2 3 9 ++ pay 7 1 3 60 ++ pay 256 2 3 0
 
--- a list of 400 places with these numbers in the first of two years
+-- a triangle of 400 places: a, b, c at the front of year 1, and d, e, f at that of year 2
 unfoldable pub rows : ℕ → ℕ → ℕ → ℕ → ℕ → ℕ → List ℤ
 rows a b c d e f = (pos a ∷ pos b ∷ pos c ∷ []) ++ replicate 17 (pos 0) ++ (pos d ∷ pos e ∷ pos f ∷ []) ++ replicate 377 (pos 0)
 

@@ -8,6 +8,8 @@
  *
  * Sets. A set has m accident years, i from 1 to m, and cells (i,j) with delays j from 0 to m - i.
  * Amounts are whole currency units. A triangle is 400 numbers, cell (i,j) at PARDESUL_PLACE(i, j).
+ * Each share, ultimate, delay, weight, row base and cell is a quotient rounded to the nearest whole
+ * number, halves to the even one.
  *
  * Files. A file has a record of 16 bytes for each cell of counts and paid, or of counts, paid and
  * incurred, once and in any order: a byte for the kind (0 count, 1 paid, 2 incurred), one for i,
@@ -38,8 +40,8 @@
 extern "C" {
 #endif
 
-/* The version, 1,000,000 x major + 1,000 x minor + patch: 0.4.0. */
-#define PARDESUL_VERSION 4000
+/* The version, 1,000,000 x major + 1,000 x minor + patch: 0.5.0. */
+#define PARDESUL_VERSION 5000
 
 /* The bytes of stack that are enough for each call, and for any of them: so many a thread has to
  * have free when it makes the call. No theorem says so: the most that a call takes was measured

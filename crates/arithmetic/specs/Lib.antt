@@ -1,5 +1,6 @@
 -- The laws of the rounding and of signed words, and the definitions that the contracts cite.
 pub mod RoundingLaws
+pub mod Steps
 pub mod Signed
 pub mod Wide
 pub mod Capped

@@ -1,11 +1,11 @@
 -- Laws of r. What stands above cites these by name and never opens r or nearest. Of the laws only
--- `r-next` and its mirror `r-previous` know how a half is rounded: each other one holds for any
--- rounding to the nearest number that keeps the sign. Assumes nothing.
+-- `r-even` knows how a half is rounded: each other one holds for any rounding to the nearest number
+-- that keeps the sign. Assumes nothing.
 use mathlib.Core.Path.{_≡_, refl, sym, ap, _∙_}
 use mathlib.Core.Logic.{_⊎_, inl, inr}
 use mathlib.Core.List.{[], _∷_}
 use Prim.Native.Nat.{ℕ, zero, suc, _+_, _*_, _/_, _%_, _≤_, _<_}
-use native.Mathlib.Nat.{mod-lt, div-add-mod', suc-mul}
+use native.Mathlib.Nat.{le-refl, mod-lt, div-add-mod', suc-mul, mul-le-mul}
 use native.Mathlib.Omega.{arith}
 use borrow.Author.Tests.{ltb-true, ltb-false, le-ltb}
 use lib.Arith.{digits-div, digits-mod}
@@ -19,10 +19,14 @@ use Rattle.integers.specs.Linear.{_&_}
 use Rattle.integers.specs.Monomials.{nlin, nstmt}
 use Rattle.integers.specs.Order.{<ℤ-or-≥, <ℤ-≤ℤ, <ℤ-suc, *ℤ-mono-r, ≤ℤ-antisym, nonneg, pos-mono, natAbs-≤, natAbs-mono, natAbs-negℤ}
 use Rattle.integers.specs.Absolute.{∣_∣}
-use Rattle.model.specs.Rounding.{nearest, r, WithinHalf}
+use Rattle.model.specs.Rounding.{evenOf, nearest, r, WithinHalf}
 use Rattle.model.specs.Tests.{by-test}
 
 -- ---- in ℕ: twice the distance is at most b
+
+even-between : (k : ℕ) → (k ≤ evenOf k) × (evenOf k ≤ suc k)
+unfolding evenOf
+even-between k = (omega arith, omega arith)
 
 nearest-bounds : (a b : ℕ) → 0 < b → (2 * (nearest a b * b) ≤ 2 * a + b) × (2 * a ≤ 2 * (nearest a b * b) + b)
 unfolding nearest
@@ -30,7 +34,12 @@ nearest-bounds a b h =
     by-test (ltb (2 * (a % b)) b)
     (λ e. let l = ltb-true (2 * (a % b)) b e in rw e (omega (arith, div-add-mod' a b), omega (arith, div-add-mod' a b)))
     (λ e. let l = ltb-false (2 * (a % b)) b e in
-    rw e (omega (arith, div-add-mod' a b, suc-mul (a / b) b), omega (arith, div-add-mod' a b, suc-mul (a / b) b, mod-lt a h)))
+    by-test (ltb b (2 * (a % b)))
+    (λ f. rw (e, f) (omega (arith, div-add-mod' a b, suc-mul (a / b) b), omega (arith, div-add-mod' a b, suc-mul (a / b) b, mod-lt a h)))
+    (λ f. let u = ltb-false b (2 * (a % b)) f in
+    let low = mul-le-mul (even-between (a / b) .0) (le-refl b) in
+    let high = mul-le-mul (even-between (a / b) .1) (le-refl b) in
+    rw (e, f) (omega (arith, div-add-mod' a b, suc-mul (a / b) b, low, high), omega (arith, div-add-mod' a b, suc-mul (a / b) b, low, high))))
 
 nearest-zero : (b : ℕ) → 0 < b → nearest 0 b ≡ 0
 nearest-zero b h = go (nearest 0 b) (nearest-bounds 0 b h .0)
@@ -146,24 +155,58 @@ r-quotient q c b h l u =
     (nlin (q ∷ c ∷ b ∷ []) l (search nstmt depth 20) (omega arith))
     (nlin (q ∷ c ∷ b ∷ []) u (search nstmt depth 20) (omega arith))
 
--- a remainder from half of b on, above zero
-pub r-next : (q c b : ℤ) → pos 0 ⋖ b → pos 0 ⩽ q *ℤ c → c ⋖ b → b ⩽ pos 2 *ℤ c → r (q *ℤ b +ℤ c) b ≡ q +ℤ pos 1
-unfolding r nearest
-r-next q c (negsuc b) h s l u = absurd (h .lt)
-r-next q (negsuc c) (pos b) h s l u = absurd (omega (arith, ints, mul-parts (pos 2) (negsuc c)))
-r-next q (pos zero) (pos b) h s l u = absurd (omega (arith, ints))
-r-next (negsuc q) (pos (suc c)) (pos b) h s l u = absurd (omega (arith, ints, mul-parts (negsuc q) (pos (suc c))))
-r-next (pos q) (pos (suc c)) (pos b) h s l u =
-    let c<b : suc c < b = omega (arith, ints) in
-    rw (digits-mod q c<b, digits-div q c<b, le-ltb (2 * suc c) b (omega (arith, ints))) (ap pos (omega arith))
+-- ---- at a half
 
--- the same below zero, by the sign
-pub r-previous : (q c b : ℤ) → pos 0 ⋖ b → pos 0 ⩽ q *ℤ c → negℤ b ⋖ c → pos 2 *ℤ c ⩽ negℤ b → r (q *ℤ b +ℤ c) b ≡ q -ℤ pos 1
-r-previous q c b h s l u =
-    let e : q *ℤ b +ℤ c ≡ negℤ (negℤ q *ℤ b +ℤ negℤ c) = ring (q ∷ c ∷ b ∷ []) (search form depth 20) tt in
-    let n : r (negℤ q *ℤ b +ℤ negℤ c) b ≡ negℤ q +ℤ pos 1 =
-    r-next (negℤ q) (negℤ c) b h
-    (nlin (q ∷ c ∷ []) s (search nstmt depth 20) (omega arith))
-    (nlin (c ∷ b ∷ []) l (search nstmt depth 20) (omega arith))
-    (nlin (c ∷ b ∷ []) u (search nstmt depth 20) (omega arith)) in
-    ap (λ (z : ℤ). r z b) e ∙ r-neg (negℤ q *ℤ b +ℤ negℤ c) b h ∙ ap negℤ n ∙ ring (q ∷ []) (search form depth 20) tt
+-- k times b and at most half of b, for an even k
+up-to-half : (k c b : ℕ) → 0 < b → k % 2 ≡ 0 → 2 * c ≤ b → nearest (k * b + c) b ≡ k
+unfolding nearest evenOf
+up-to-half k c b h e l =
+    let c<b : c < b = omega arith in
+    rw (digits-mod k c<b, digits-div k c<b)
+    (by-test (ltb (2 * c) b) (λ t. rw t refl)
+    (λ t. let g = ltb-false (2 * c) b t in rw (t, le-ltb b (2 * c) l) (omega arith)))
+
+-- and from half of b on, where k + 1 is even
+from-half : (k c b : ℕ) → 0 < b → suc k % 2 ≡ 0 → b ≤ 2 * c → c < b → nearest (k * b + c) b ≡ suc k
+unfolding nearest evenOf
+from-half k c b h e l c<b =
+    rw (digits-mod k c<b, digits-div k c<b, le-ltb (2 * c) b l)
+    (by-test (ltb b (2 * c)) (λ t. rw t refl)
+    (λ t. rw t (omega arith)))
+
+-- the same of integers
+up-to-half⁺ : (k : ℕ) (c b : ℤ) → pos 0 ⋖ b → k % 2 ≡ 0 → pos 0 ⩽ c → pos 2 *ℤ c ⩽ b → r (pos k *ℤ b +ℤ c) b ≡ pos k
+unfolding r
+up-to-half⁺ k c (negsuc b) h e l u = absurd (h .lt)
+up-to-half⁺ k (negsuc c) (pos b) h e l u = absurd (l .le)
+up-to-half⁺ k (pos c) (pos b) h e l u = ap pos (up-to-half k c b (omega (arith, ints)) e (omega (arith, ints)))
+
+from-half⁺ : (k : ℕ) (c b : ℤ) → pos 0 ⋖ b → suc k % 2 ≡ 0 → b ⩽ pos 2 *ℤ c → c ⋖ b → r (pos k *ℤ b +ℤ c) b ≡ pos (suc k)
+unfolding r
+from-half⁺ k c (negsuc b) h e l u = absurd (h .lt)
+from-half⁺ k (negsuc c) (pos b) h e l u = absurd (omega (arith, ints, mul-parts (pos 2) (negsuc c)))
+from-half⁺ k (pos c) (pos b) h e l u = ap pos (from-half k c b (omega (arith, ints)) e (omega (arith, ints)) (omega (arith, ints)))
+
+mirror : (k c b : ℤ) → negℤ k *ℤ b +ℤ c ≡ negℤ (k *ℤ b +ℤ negℤ c)
+mirror k c b = ring (k ∷ c ∷ b ∷ []) (search form depth 20) tt
+
+-- an even number takes what is at most half of b away from it, the halves included
+even⁺ : (k : ℕ) (c b : ℤ) → pos 0 ⋖ b → k % 2 ≡ 0 → negℤ b ⩽ pos 2 *ℤ c → pos 2 *ℤ c ⩽ b → r (pos k *ℤ b +ℤ c) b ≡ pos k
+even⁺ k c b h e l u = go k e (<ℤ-or-≥ c (pos 0))
+  where
+    go : (k : ℕ) → k % 2 ≡ 0 → (c ⋖ pos 0) ⊎ (pos 0 ⩽ c) → r (pos k *ℤ b +ℤ c) b ≡ pos k
+    go k e (inr g) = up-to-half⁺ k c b h e g u
+    go zero e (inl g) =
+        ap (λ (z : ℤ). r z b) (mirror (pos 0) c b) ∙ r-neg (pos 0 *ℤ b +ℤ negℤ c) b h
+        ∙ ap negℤ (up-to-half⁺ 0 (negℤ c) b h e (nlin (c ∷ []) g (search nstmt depth 20) (omega arith)) (nlin (c ∷ b ∷ []) l (search nstmt depth 20) (omega arith)))
+    go (suc k) e (inl g) =
+        let s : pos (suc k) ≡ pos k +ℤ pos 1 = ap pos (omega arith) in
+        let next : (pos k +ℤ pos 1) *ℤ b +ℤ c ≡ pos k *ℤ b +ℤ (b +ℤ c) = ring (pos k ∷ c ∷ b ∷ []) (search form depth 20) tt in
+        ap (λ (z : ℤ). r (z *ℤ b +ℤ c) b) s ∙ ap (λ (z : ℤ). r z b) next
+        ∙ from-half⁺ k (b +ℤ c) b h e (nlin (c ∷ b ∷ []) l (search nstmt depth 20) (omega arith)) (nlin (c ∷ b ∷ []) g (search nstmt depth 20) (omega arith))
+
+pub r-even : (k c b : ℤ) → pos 0 ⋖ b → natAbs k % 2 ≡ 0 → negℤ b ⩽ pos 2 *ℤ c → pos 2 *ℤ c ⩽ b → r (k *ℤ b +ℤ c) b ≡ k
+r-even (pos k) c b h e l u = even⁺ k c b h e l u
+r-even (negsuc k) c b h e l u =
+    ap (λ (z : ℤ). r z b) (mirror (pos (suc k)) c b) ∙ r-neg (pos (suc k) *ℤ b +ℤ negℤ c) b h
+    ∙ ap negℤ (even⁺ (suc k) (negℤ c) b h e (nlin (c ∷ b ∷ []) u (search nstmt depth 20) (omega arith)) (nlin (c ∷ b ∷ []) l (search nstmt depth 20) (omega arith)))

@@ -2,10 +2,11 @@
 
 ghost use mathlib.Core.Path.{_≡_};
 ghost use mathlib.Core.Bool.{true};
-ghost use Prim.Native.Nat.{_+_, _*_, _/_, _^_, _<_, _≤_, min};
+ghost use Prim.Native.Nat.{_+_, _*_, _/_, _%_, _^_, _<_, _≤_, min};
 ghost use lib.IntN.{pos, natAbs, _*ℤ_, _+ℤ_};
 ghost use Rattle.integers.specs.Parts.{_⩽_, _⋖_};
 ghost use Rattle.model.specs.Rounding.{S, r};
+ghost use Rattle.arithmetic.specs.Steps.{stepOf};
 ghost use Rattle.arithmetic.specs.Signed.{turned, signed};
 ghost use Rattle.arithmetic.specs.Wide.{Product};
 ghost use Rattle.arithmetic.specs.Capped.{capped};
@@ -35,12 +36,12 @@ const BASE: u64 = 65536;
 // S: shares are whole numbers of one part in S.
 pub const SCALE: i64 = 1000000000;
 
-// S without a sign, its square, and half of that.
+// S without a sign, half of it, and its square.
 const UNSIGNED_SCALE: u64 = SCALE as u64;
 
-const SQUARE: u64 = UNSIGNED_SCALE * UNSIGNED_SCALE;
+const HALF_SCALE: u64 = UNSIGNED_SCALE / 2;
 
-const HALF_SQUARE: u64 = SQUARE / 2;
+const SQUARE: u64 = UNSIGNED_SCALE * UNSIGNED_SCALE;
 
 // The smaller of two numbers.
 pub fn smaller(a: usize, b: usize) -> usize
@@ -49,16 +50,26 @@ pub fn smaller(a: usize, b: usize) -> usize
     if a < b { a } else { b }
 }
 
-// The whole number nearest to (q × d + rem) / d, from a quotient and a remainder toward zero. This
-// function and `round_by_square` alone know how a half is rounded.
+// How far the nearest number is from a quotient q: 0 or 1, from what is left above q and what is
+// missing to the next number. This function alone knows how a half is rounded: to the even number.
+fn step(left: i64, missing: i64, q: i64) -> i64
+    ensures { λ k. ⌜ k ≡ stepOf q left missing ⌝ }
+{
+    if left == missing {
+        return if magnitude(q) % 2 == 0 { 0 } else { 1 };
+    }
+    if left < missing { 0 } else { 1 }
+}
+
+// The whole number nearest to (q × d + rem) / d, from a quotient and a remainder.
 pub fn round_quotient(q: i64, rem: i64, d: i64) -> i64
-    requires { ⌜ (pos 0 ⋖ d) × (natAbs d ≤ 10 ^ 18) × (natAbs rem < natAbs d) × (pos 0 ⩽ q *ℤ rem) × (natAbs q ≤ 9 * 10 ^ 18) ⌝ }
+    requires { ⌜ (pos 0 ⋖ d) × (natAbs d ≤ 10 ^ 18) × (natAbs rem < natAbs d) × (natAbs q ≤ 9 * 10 ^ 18) ⌝ }
     ensures { λ k. ⌜ k ≡ r (q *ℤ d +ℤ rem) d ⌝ }
 {
     if rem < 0 {
-        if -rem >= d + rem { q - 1 } else { q }
+        q - step(-rem, d + rem, q)
     } else {
-        if rem >= d - rem { q + 1 } else { q }
+        q + step(rem, d - rem, q)
     }
 }
 
@@ -214,19 +225,30 @@ fn reached(n: u64, bound: u64) -> u64
     if n < bound { 0 } else { 1 }
 }
 
-// The whole number nearest to v × x / S², by digits in base S. What the high digits leave is below
-// 2 × S², so that comparisons round it.
-fn round_by_square(v: u64, x: u64) -> u64
+// v × x without the lowest digit in base S, divided by S.
+fn divide_by_square(v: u64, x: u64) -> Quotient
     requires { ⌜ (v ≤ 2 * 10 ^ 14) × (x ≤ 9 * 10 ^ 18) ⌝ }
-    ensures { λ k. ⌜ (pos k ≡ r (pos (v * x)) (S *ℤ S)) × (k ≤ 10 ^ 18) ⌝ }
+    ensures { λ s. ⌜ (s .q * 10 ^ 9 + s .rem ≡ v * x / 10 ^ 9) × (s .rem < 10 ^ 9) × (s .q < 10 ^ 18) ⌝ }
 {
-    let mid = v / UNSIGNED_SCALE * (x % UNSIGNED_SCALE) + v % UNSIGNED_SCALE * (x / UNSIGNED_SCALE);
-    let low = mid % UNSIGNED_SCALE * UNSIGNED_SCALE + v % UNSIGNED_SCALE * (x % UNSIGNED_SCALE);
-    let q = v / UNSIGNED_SCALE * (x / UNSIGNED_SCALE) + mid / UNSIGNED_SCALE;
-    q + reached(low, HALF_SQUARE) + reached(low, SQUARE + HALF_SQUARE)
+    let low = v % UNSIGNED_SCALE * (x % UNSIGNED_SCALE);
+    let mid = v / UNSIGNED_SCALE * (x % UNSIGNED_SCALE)
+        + v % UNSIGNED_SCALE * (x / UNSIGNED_SCALE)
+        + low / UNSIGNED_SCALE;
+    Quotient {
+        q: v / UNSIGNED_SCALE * (x / UNSIGNED_SCALE) + mid / UNSIGNED_SCALE,
+        rem: mid % UNSIGNED_SCALE,
+    }
 }
 
-// A cell: the whole number nearest to v × x / S².
+// The lowest digit of v × x in base S.
+fn lowest_digit(v: i64, x: i64) -> u64
+    ensures { λ l. ⌜ l ≡ natAbs v * natAbs x % 10 ^ 9 ⌝ }
+{
+    magnitude(v % SCALE * (x % SCALE)) % UNSIGNED_SCALE
+}
+
+// A cell: the whole number nearest to v × x / S². The first digit below the quotient says which
+// that is, unless it is just half of S.
 pub fn scale_cell(v: i64, x: i64) -> i64
     requires { ⌜ (natAbs v ≤ 2 * 10 ^ 14) × (natAbs x ≤ 9 * 10 ^ 18) ⌝ }
     ensures { λ k. ⌜ k ≡ r (v *ℤ x) (S *ℤ S) ⌝ }
@@ -234,6 +256,15 @@ pub fn scale_cell(v: i64, x: i64) -> i64
     if x == 0 {
         return 0;
     }
-    let k = round_by_square(magnitude(v), magnitude(x));
-    with_sign((v < 0) != (x < 0), k as i64)
+    let s = divide_by_square(magnitude(v), magnitude(x));
+    let negative = (v < 0) != (x < 0);
+    if s.rem == HALF_SCALE {
+        return round_signed(
+            negative,
+            s.q,
+            s.rem * UNSIGNED_SCALE + lowest_digit(v, x),
+            SQUARE as i64,
+        );
+    }
+    with_sign(negative, (s.q + reached(s.rem, HALF_SCALE)) as i64)
 }

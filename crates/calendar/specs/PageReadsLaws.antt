@@ -29,8 +29,8 @@ use Rattle.calendar.specs.PageReads.{fieldAt, trimmed, lineOf, word, par
 use Rattle.calendar.specs.ReadingLaws.{until-at, past-at, until-end, Lines, IsLine, no-lines, one-line, more-lines, LineAt, line-read, line-below, field-is, trimmed-aligned}
 
 -- set K's text and page (model, Examples and PageExamples): word 2 of line 1 is 69, and the RBNS of
--- line 1 is 338
-pub reading-example : (word printed 1 2 ≡ 54 ∷ 57 ∷ []) × (trimmed (fieldAt pageK 1 4 21) ≡ 51 ∷ 51 ∷ 56 ∷ [])
+-- line 1 is 337
+pub reading-example : (word printed 1 2 ≡ 54 ∷ 57 ∷ []) × (trimmed (fieldAt pageK 1 4 21) ≡ 51 ∷ 51 ∷ 55 ∷ [])
 unfolding part until past fieldAt trimmed printed pageK printedHeading
 reading-example = (refl, refl)
 

@@ -1,4 +1,5 @@
--- 01, Examples: one table, held to the definitions of the calls by computation.
+-- 01, Examples, with the values that 02, Job 4, gives: one table, held to the definitions of the
+-- calls by computation.
 use Prim.Native.Nat.{ℕ, _+_, _*_, _-_, _^_}
 use mathlib.Core.Path.{_≡_, refl}
 use mathlib.Core.Bool.{Bool, true, false, _&&_}
@@ -9,7 +10,7 @@ use lib.ListN.{replicate}
 use Rattle.integers.specs.Sums.{sum}
 use Rattle.model.specs.Lists.{tabulate, listed, at, every, total, count}
 use Rattle.model.specs.Records.{triangle, sparesZero, leastFirst, signed, valueAt, isOf, copies, valueOf, hasIncurred, setOf, givenSet, inRange}
-use Rattle.model.specs.Rounding.{S, nearest, r}
+use Rattle.model.specs.Rounding.{S, evenOf, nearest, r}
 use Rattle.model.specs.Shares as Shares
 use Rattle.model.specs.Shares.{C, latest, B, A, gDown, g, ultimate, gList, bList, ultimates}
 use Rattle.model.specs.Delays.{delayAfter, delaysTo, delays, delaysOf}
@@ -129,7 +130,7 @@ unfoldable pub below : ℕ → List ℕ → Rounded → ℤ
 below m f (ofN i) = g m (setOf m f .counts) (m - i)
 below m f (ofRBNS method i j) = S *ℤ S
 
--- a row of the table: a set, what is asked of it, and the value that 01 states; or what is asked
+-- a row of the table: a set, what is asked of it, and the value that is stated; or what is asked
 -- before rounding, and x for the value x / 2
 pub data Row : Type 0 where
   row : Example → Asked → ℤ → Row
@@ -161,7 +162,7 @@ table =
     -- its delays
     ∷ row K (p 0) (pos 750000000) ∷ row K (p 1) (pos 312500000)
     -- its ultimates
-    ∷ row K (U 1) (pos 1000) ∷ row K (U 2) (pos 1100) ∷ row K (N 1) (pos 100) ∷ row K (N 2) (pos 113)
+    ∷ row K (U 1) (pos 1000) ∷ row K (U 2) (pos 1100) ∷ row K (N 1) (pos 100) ∷ row K (N 2) (pos 112)
     -- N(2) before rounding, 112.5
     ∷ halves K (ofN 2) (pos 225)
     -- year 2 under DCL, basis 1: delays 1 and 2
@@ -169,11 +170,11 @@ table =
     -- delay 1 in all is what U(2) leaves to pay
     ∷ row K (together 0 1 2 1) (pos 1100 -ℤ pos 660) ∷ row K (unpaid 2) (pos 1100 -ℤ pos 660)
     -- year 1: delay 2, and its RBNS before rounding, 62.5
-    ∷ row K (RBNS 0 1 1 2) (pos 63) ∷ row K (IBNR 0 1 1 2) (pos 0) ∷ halves K (ofRBNS 0 1 2) (pos 125)
+    ∷ row K (RBNS 0 1 1 2) (pos 62) ∷ row K (IBNR 0 1 1 2) (pos 0) ∷ halves K (ofRBNS 0 1 2) (pos 125)
     -- year 2 under BDCL: its base, and delay 1
     ∷ row K (base 1 2) (pos 1200) ∷ row K (RBNS 1 1 2 1) (pos 300) ∷ row K (IBNR 1 1 2 1) (pos 180)
     -- and under IDCL
-    ∷ row K (base 2 2) (pos 1350) ∷ row K (RBNS 2 1 2 1) (pos 338) ∷ row K (IBNR 2 1 2 1) (pos 203)
+    ∷ row K (base 2 2) (pos 1350) ∷ row K (RBNS 2 1 2 1) (pos 338) ∷ row K (IBNR 2 1 2 1) (pos 202)
     -- delays at the bound of question 12: accepted, with year 2's cells of delay 1
     ∷ row late (p 0) (pos (3 * 10 ^ 9)) ∷ row late (p 1) (negℤ (pos (8 * 10 ^ 9))) ∷ row late (refusal 0 1) (pos 0)
     ∷ row late (RBNS 0 1 2 1) (negℤ (pos 2000)) ∷ row late (IBNR 0 1 2 1) (pos 2250)
@@ -196,12 +197,12 @@ others =
 unfoldable pub asked : List ℕ
 asked = (50 ∷ 32 ∷ 48 ∷ 32 ∷ 49 ∷ 10 ∷ []) ++ two 0 80 20 90 ++ two 1 600 400 660
 
--- what it prints: the lines "1 338 165 503", "2 0 69 69" and "T 338 234 572"
+-- what it prints: the lines "1 337 165 502", "2 0 69 69" and "T 337 234 571"
 unfoldable pub printed : List ℕ
 printed =
-    49 ∷ 32 ∷ 51 ∷ 51 ∷ 56 ∷ 32 ∷ 49 ∷ 54 ∷ 53 ∷ 32 ∷ 53 ∷ 48 ∷ 51 ∷ 10
+    49 ∷ 32 ∷ 51 ∷ 51 ∷ 55 ∷ 32 ∷ 49 ∷ 54 ∷ 53 ∷ 32 ∷ 53 ∷ 48 ∷ 50 ∷ 10
     ∷ 50 ∷ 32 ∷ 48 ∷ 32 ∷ 54 ∷ 57 ∷ 32 ∷ 54 ∷ 57 ∷ 10
-    ∷ 84 ∷ 32 ∷ 51 ∷ 51 ∷ 56 ∷ 32 ∷ 50 ∷ 51 ∷ 52 ∷ 32 ∷ 53 ∷ 55 ∷ 50 ∷ 10
+    ∷ 84 ∷ 32 ∷ 51 ∷ 51 ∷ 55 ∷ 32 ∷ 50 ∷ 51 ∷ 52 ∷ 32 ∷ 53 ∷ 55 ∷ 49 ∷ 10
     ∷ []
 
 -- ---- the theorems
@@ -211,7 +212,7 @@ unfoldable pub opened : ℕ
 unfolding
     tabulate listed every total count sum
     triangle sparesZero leastFirst signed valueAt isOf copies valueOf hasIncurred setOf givenSet inRange
-    S nearest r
+    S evenOf nearest r
     C latest B A gDown g Shares.b ultimate gList bList ultimates
     delayAfter delaysTo delays delaysOf
     RowBases.U W R R* rowBase leftover leftovers
@@ -222,6 +223,13 @@ unfolding
     callRefusal readRefusal sharesRefusal sharesOf sharesAnswer delaysRefusal delaysAnswer forecastRefusal forecastAnswer forecastOutput backTestRefusal backTestOf backTestAnswer fileTally fileText closingOf closingText
     bytes recordOf rowOf two K late later thousand thousandLess past out figures answer answerOf above below halved right table others asked printed
 opened = 0
+
+-- 2.5, 3.5, -2.5 and -3.5; 0.5 and -0.5; and below and above a half, 2.4 and -2.6
+pub halves-to-even :
+    (r (pos 5) (pos 2) ≡ pos 2) × (r (pos 7) (pos 2) ≡ pos 4) × (r (negsuc 4) (pos 2) ≡ negsuc 1) × (r (negsuc 6) (pos 2) ≡ negsuc 3)
+    × (r (pos 1) (pos 2) ≡ pos 0) × (r (negsuc 0) (pos 2) ≡ pos 0) × (r (pos 12) (pos 5) ≡ pos 2) × (r (negsuc 12) (pos 5) ≡ negsuc 2)
+unfolding opened
+halves-to-even = (refl, refl, refl, refl, refl, refl, refl, refl)
 
 -- the definitions give every value of the table
 pub examples : T (right table)

@@ -1,4 +1,4 @@
--- Examples of the closing page (02, Job 1). The figures are 01's, or those of an independent
+-- Examples of the closing page (02, Job 1). The figures are those of Examples, or of an independent
 -- calculation with big numbers.
 use Prim.Native.Nat.{ℕ}
 use mathlib.Core.Path.{_≡_, refl}
@@ -22,14 +22,14 @@ newline = 10 ∷ []
 unfoldable pub printedHeading : List ℕ
 printedHeading = (89 ∷ 69 ∷ 65 ∷ 82 ∷ []) ++ after 17 (82 ∷ 66 ∷ 78 ∷ 83 ∷ []) ++ after 17 (73 ∷ 66 ∷ 78 ∷ 82 ∷ []) ++ after 16 (84 ∷ 79 ∷ 84 ∷ 65 ∷ 76 ∷ []) ++ newline
 
--- K's page under DCL, basis 1: the lines of 1, 338, 165, 503; of 2, 0, 69, 69; of ALL, 338, 234,
--- 572
+-- K's page under DCL, basis 1, with year 1's 62.5 rounded to 62 (02, Job 4): the lines of 1, 337,
+-- 165, 502; of 2, 0, 69, 69; of ALL, 337, 234, 571
 unfoldable pub pageK : List ℕ
 pageK =
     printedHeading
-    ++ after 3 (49 ∷ []) ++ after 18 (51 ∷ 51 ∷ 56 ∷ []) ++ after 18 (49 ∷ 54 ∷ 53 ∷ []) ++ after 18 (53 ∷ 48 ∷ 51 ∷ []) ++ newline
+    ++ after 3 (49 ∷ []) ++ after 18 (51 ∷ 51 ∷ 55 ∷ []) ++ after 18 (49 ∷ 54 ∷ 53 ∷ []) ++ after 18 (53 ∷ 48 ∷ 50 ∷ []) ++ newline
     ++ after 3 (50 ∷ []) ++ after 20 (48 ∷ []) ++ after 19 (54 ∷ 57 ∷ []) ++ after 19 (54 ∷ 57 ∷ []) ++ newline
-    ++ after 1 (65 ∷ 76 ∷ 76 ∷ []) ++ after 18 (51 ∷ 51 ∷ 56 ∷ []) ++ after 18 (50 ∷ 51 ∷ 52 ∷ []) ++ after 18 (53 ∷ 55 ∷ 50 ∷ []) ++ newline
+    ++ after 1 (65 ∷ 76 ∷ 76 ∷ []) ++ after 18 (51 ∷ 51 ∷ 55 ∷ []) ++ after 18 (50 ∷ 51 ∷ 52 ∷ []) ++ after 18 (53 ∷ 55 ∷ 49 ∷ []) ++ newline
 
 -- late counts and early payments
 unfoldable pub lateFile : List ℕ

@@ -57,21 +57,17 @@ pub mod proved {
 pub mod plain {
     use super::{LARGEST_SHARE, OUTSIDE, SCALE, TOO_LARGE};
 
-    /// The whole number nearest to a / b, halves away from zero.
+    /// The whole number nearest to a / b, halves to the even one: an odd quotient tips a half.
     #[inline(always)]
     fn nearest(a: i128, b: i64) -> i128 {
         let q = a / b as i128;
         let rem = (a - q * b as i128) as i64;
-        if rem < 0 {
-            if -rem >= b + rem {
-                q - 1
-            } else {
-                q
-            }
-        } else if rem >= b - rem {
-            q + 1
-        } else {
+        if 2 * rem.unsigned_abs() + (q & 1) as u64 <= b as u64 {
             q
+        } else if rem < 0 {
+            q - 1
+        } else {
+            q + 1
         }
     }
 
@@ -157,7 +153,7 @@ impl Numbers {
     pub fn edgy(&mut self, most: u64) -> u64 {
         match self.number() % 16 {
             0 => most,
-            1 => most - 1,
+            1 => most.saturating_sub(1),
             2 => 0,
             3 => 1.min(most),
             _ => {

@@ -1,8 +1,8 @@
-//! The examples of document 01, and sets at the edges of its questions: what the document prints,
-//! and every call on the file.
+//! The examples of the documents, and sets at the edges of the questions: what is printed, and
+//! every call on the file.
 
 use crate::difference::{same, Difference};
-use crate::{files, respond, Accepted};
+use crate::{files, respond, Counts};
 use pardesul::calls;
 use reference::examples::{Answer, Call, Example, EDGES, EXAMPLES};
 use reference::forecast::entry_count;
@@ -103,6 +103,6 @@ fn case(m: u64, file: Vec<u8>, method: u64, basis: u64, cut: u64) -> Case {
 fn in_lent_memory(seed: u64, case: Case) -> Result<(), Difference> {
     let line = format!("{} {} {}\n", case.m, case.method, case.basis);
     let input = [line.as_bytes(), &case.file].concat();
-    respond::compare(seed, &input, &mut Accepted::new())?;
-    files::compare(seed, &case, &mut Accepted::new())
+    respond::compare(seed, &input, &mut Counts::default())?;
+    files::compare(seed, &case, &mut Counts::default())
 }

@@ -1,7 +1,7 @@
 //! The claims journal.
 
 use crate::difference::{hexadecimal, same, same_list, Difference};
-use crate::{files, Accepted};
+use crate::{files, Counts};
 use pardesul::{calls, Journal, JournalTally, Refusal, Triangle, TriangleSet};
 use reference::generate::{file, journal_case, Made, Random};
 use reference::{read_set, replay, Set, Transaction};
@@ -18,7 +18,7 @@ const REFUSED: [(u64, &str); 4] = [
 type Answer = Result<reference::JournalTally, u64>;
 
 /// The seed's journal.
-pub fn of_case(seed: u64, accepted: &mut Accepted) -> Result<(), Difference> {
+pub fn of_case(seed: u64, counts: &mut Counts) -> Result<(), Difference> {
     let case = journal_case(seed);
     let made = match case.made {
         Made::Valid => "valid",
@@ -28,13 +28,13 @@ pub fn of_case(seed: u64, accepted: &mut Accepted) -> Result<(), Difference> {
         Made::WrongLength => "wrong length",
         Made::WrongM => "wrong m",
     };
-    *accepted.entry(made).or_default() += 1;
-    count(&compare(seed, &case.journal, case.m)?, accepted);
+    counts.count(made, true);
+    count(&compare(seed, &case.journal, case.m)?, counts);
     Ok(())
 }
 
 /// The seed's journal with bytes changed, dropped or added at random, under its m or another one.
-pub fn of_damaged(seed: u64, accepted: &mut Accepted) -> Result<(), Difference> {
+pub fn of_damaged(seed: u64, counts: &mut Counts) -> Result<(), Difference> {
     let mut random = Random::new(seed ^ (1 << 44));
     let mut case = journal_case(seed);
     for _ in 0..random.between(1, 2) {
@@ -52,14 +52,14 @@ pub fn of_damaged(seed: u64, accepted: &mut Accepted) -> Result<(), Difference> 
     if random.one_in(4) {
         case.m = random.between(2, 20) as u64;
     }
-    count(&compare(seed, &case.journal, case.m)?, accepted);
+    count(&compare(seed, &case.journal, case.m)?, counts);
     Ok(())
 }
 
-fn count(answer: &Answer, accepted: &mut Accepted) {
-    *accepted.entry("replay").or_default() += u64::from(answer.is_ok());
+fn count(answer: &Answer, counts: &mut Counts) {
+    counts.count("replay", answer.is_ok());
     for (number, name) in REFUSED {
-        *accepted.entry(name).or_default() += u64::from(answer.as_ref().err() == Some(&number));
+        counts.count(name, answer.as_ref().err() == Some(&number));
     }
 }
 

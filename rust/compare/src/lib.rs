@@ -2,6 +2,7 @@
 //! case follows from its seed, and the memory that a call is lent stands between words that have to
 //! stay.
 
+mod counts;
 mod difference;
 mod examples;
 mod files;
@@ -11,20 +12,14 @@ mod respond;
 mod tally;
 mod writer;
 
+pub use counts::Counts;
 pub use difference::Difference;
 pub use examples::{edges, examples};
-
-use std::collections::BTreeMap;
-
-/// How many cases each call accepted; of the answers to inputs, how many were each of the texts; of
-/// closing pages, how many cases each method and basis accepted and each refusal met; of journals,
-/// how many were made in each way and each refusal met.
-pub type Accepted = BTreeMap<&'static str, u64>;
 
 /// A comparison of one or several calls on the case of a seed.
 pub struct Comparison {
     pub name: &'static str,
-    of: fn(u64, &mut Accepted) -> Result<(), Difference>,
+    of: fn(u64, &mut Counts) -> Result<(), Difference>,
 }
 
 /// All comparisons.
@@ -64,19 +59,19 @@ pub const COMPARISONS: [Comparison; 8] = [
 ];
 
 impl Comparison {
-    /// Compares on these seeds, and counts the accepted calls; stops at the first difference.
-    pub fn run(&self, seeds: impl Iterator<Item = u64>) -> Result<Accepted, Difference> {
-        let mut accepted = Accepted::new();
+    /// Compares on these seeds, and counts; stops at the first difference.
+    pub fn run(&self, seeds: impl Iterator<Item = u64>) -> Result<Counts, Difference> {
+        let mut counts = Counts::default();
         for seed in seeds {
-            (self.of)(seed, &mut accepted)?;
+            (self.of)(seed, &mut counts)?;
         }
-        Ok(accepted)
+        Ok(counts)
     }
 }
 
 /// Compares `respond` on any input; the seed chooses the memory that is lent.
 pub fn respond(seed: u64, input: &[u8]) -> Result<(), Difference> {
-    respond::compare(seed, input, &mut Accepted::new()).map(|_| ())
+    respond::compare(seed, input, &mut Counts::default()).map(|_| ())
 }
 
 /// Compares `closing_page` on any file, any m, method and basis, and a page of any length.
@@ -86,7 +81,7 @@ pub fn closing_page(
     settings: [u64; 3],
     page_len: usize,
 ) -> Result<(), Difference> {
-    files::closing_page(seed, file, settings, page_len).map(|_| ())
+    files::closing_page(seed, file, settings, page_len, &mut Counts::default()).map(|_| ())
 }
 
 /// Compares `read_set` on any file and m.

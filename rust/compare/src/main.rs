@@ -1,7 +1,9 @@
-//! The long comparison: `compare COUNT [FIRST]` compares the examples of document 01, and runs
-//! every comparison on the seeds FIRST (or 0) to FIRST + COUNT - 1.
+//! The long comparison: `compare COUNT [FIRST]` compares the examples of the documents, and runs
+//! every comparison on the seeds FIRST (or 0) to FIRST + COUNT - 1. It prints what was accepted,
+//! and by shape how many halves the calculation met: with an even + with an odd whole part.
 
-use compare::{edges, examples, COMPARISONS};
+use compare::{edges, examples, Counts, COMPARISONS};
+use reference::halves::{texts, KINDS};
 use std::env;
 use std::process::ExitCode;
 
@@ -17,7 +19,7 @@ fn main() -> ExitCode {
     };
     match examples().and_then(|count| Ok((count, edges()?))) {
         Ok((count, edges)) => {
-            println!("examples: {count} as document 01 prints them, {edges} edges")
+            println!("examples: {count} as the documents print them, {edges} edges")
         }
         Err(difference) => {
             println!("examples: {difference}");
@@ -26,10 +28,18 @@ fn main() -> ExitCode {
     }
     for comparison in &COMPARISONS {
         match comparison.run(first..first.saturating_add(count)) {
-            Ok(accepted) => println!(
-                "{}: {count} the same, accepted {accepted:?}",
-                comparison.name
-            ),
+            Ok(Counts { accepted, halves }) => {
+                println!(
+                    "{}: {count} the same, accepted {accepted:?}",
+                    comparison.name
+                );
+                for (shape, met) in halves {
+                    let counts = KINDS.iter().zip(texts(&met));
+                    let counts = counts.map(|((name, _), text)| format!("{name} {text}"));
+                    let counts: Vec<String> = counts.collect();
+                    println!("  halves ({}): {}", shape.name(), counts.join(", "));
+                }
+            }
             Err(difference) => {
                 println!("{}: {difference}", comparison.name);
                 return ExitCode::FAILURE;

@@ -2,10 +2,11 @@
 
 use crate::difference::{hexadecimal, same, same_list, Difference};
 use crate::memory::Memory;
-use crate::Accepted;
+use crate::Counts;
 use pardesul::calls;
 use reference::closing;
 use reference::generate::{case, closing_input, Random};
+use reference::halves::during;
 
 /// What is counted of the texts: the refusal n at place n.
 const REFUSED: [&str; 15] = [
@@ -37,18 +38,17 @@ const TEXTS: [&str; 6] = [
 ];
 
 /// The seed's input.
-pub fn of_case(seed: u64, accepted: &mut Accepted) -> Result<(), Difference> {
-    let refusal = compare(seed, &closing_input(seed), accepted)?;
+pub fn of_case(seed: u64, counts: &mut Counts) -> Result<(), Difference> {
+    let refusal = compare(seed, &closing_input(seed), counts)?;
     if refusal == 0 {
         let case = case(seed);
-        let text = TEXTS[(2 * case.method + case.basis) as usize];
-        *accepted.entry(text).or_default() += 1;
+        counts.count(TEXTS[(2 * case.method + case.basis) as usize], true);
     }
     Ok(())
 }
 
 /// The seed's input with bytes changed, dropped or added at random, mostly in its first line.
-pub fn of_damaged(seed: u64, accepted: &mut Accepted) -> Result<(), Difference> {
+pub fn of_damaged(seed: u64, counts: &mut Counts) -> Result<(), Difference> {
     let mut random = Random::new(seed ^ (1 << 41));
     let mut input = closing_input(seed);
     for _ in 0..random.between(1, 2) {
@@ -71,13 +71,13 @@ pub fn of_damaged(seed: u64, accepted: &mut Accepted) -> Result<(), Difference> 
             _ => {}
         }
     }
-    compare(seed, &input, accepted).map(|_| ())
+    compare(seed, &input, counts).map(|_| ())
 }
 
 /// The whole text, or nothing where the output is too short for it; says the refusal number.
-pub fn compare(seed: u64, input: &[u8], accepted: &mut Accepted) -> Result<usize, Difference> {
+pub fn compare(seed: u64, input: &[u8], counts: &mut Counts) -> Result<usize, Difference> {
     let text = || arguments(seed, input);
-    let wanted = closing(input);
+    let (wanted, halves) = during(|| closing(input));
     let room = any_room(&mut Random::new(seed ^ (1 << 42)), wanted.len());
 
     let mut memory = Memory::new(seed, &[room]);
@@ -96,8 +96,11 @@ pub fn compare(seed: u64, input: &[u8], accepted: &mut Accepted) -> Result<usize
     )?;
 
     let refusal = refusal(&wanted);
-    *accepted.entry(REFUSED[refusal]).or_default() += 1;
-    *accepted.entry("too short").or_default() += u64::from(!fits);
+    counts.count(REFUSED[refusal], true);
+    counts.count("too short", !fits);
+    if refusal == 0 {
+        counts.met(seed, halves);
+    }
     Ok(refusal)
 }
 

@@ -1,12 +1,12 @@
 //! The calendar-year tally.
 
 use crate::difference::{same, Difference};
-use crate::Accepted;
+use crate::Counts;
 use reference::generate::Random;
 
 /// Cells of every size added to a tally one after the other, some in years outside 1 to 38 and some
 /// past 64 bits.
-pub fn of_case(seed: u64, _: &mut Accepted) -> Result<(), Difference> {
+pub fn of_case(seed: u64, _: &mut Counts) -> Result<(), Difference> {
     let mut random = Random::new(seed);
     let mut wanted = reference::Tally::zero();
     let mut found = pardesul::Tally::zero();

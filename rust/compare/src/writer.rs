@@ -1,7 +1,7 @@
 //! The writer.
 
 use crate::difference::{same, same_list, Difference};
-use crate::Accepted;
+use crate::Counts;
 use pardesul::{calls, Triangle, TriangleSet};
 use reference::generate::{writer_case, Random, WriterCase};
 use reference::records::file_length;
@@ -12,7 +12,7 @@ const AROUND: usize = 16;
 
 /// The set of the seed: the refusal, every byte of the output and around it, and the file that the
 /// safe crate makes.
-pub fn of_case(seed: u64, accepted: &mut Accepted) -> Result<(), Difference> {
+pub fn of_case(seed: u64, counts: &mut Counts) -> Result<(), Difference> {
     let case = writer_case(seed);
     let text = || arguments(seed, &case);
     let m = case.m as usize;
@@ -45,7 +45,7 @@ pub fn of_case(seed: u64, accepted: &mut Accepted) -> Result<(), Difference> {
 
     let found = natural(&case).to_file().map_err(|refusal| refusal.number());
     same("TriangleSet::to_file", found, file(&case), text)?;
-    *accepted.entry("write").or_default() += u64::from(refusal == 0);
+    counts.count("write", refusal == 0);
     Ok(())
 }
 

@@ -1,4 +1,4 @@
-//! The examples of document 01 and the edges of its questions, through the library.
+//! The examples of the documents and the edges of the questions, through the library.
 
 use std::fs::read;
 use std::path::Path;

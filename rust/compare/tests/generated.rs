@@ -1,26 +1,49 @@
 //! Every comparison on a few thousand generated cases.
 
-use compare::COMPARISONS;
+use compare::{Counts, COMPARISONS};
+use reference::generate::Shape;
+use reference::halves::{add, Halves, KINDS};
 
 const CASES: u64 = 3_000;
 
 /// The comparison of this name, in which each of these calls accepted at least so many cases and
-/// refused at least as many as it names.
-fn the_same(name: &str, calls: &[(&str, u64, u64)]) {
+/// refused at least as many as it names; says what was counted.
+fn the_same(name: &str, calls: &[(&str, u64, u64)]) -> Counts {
     let comparison = COMPARISONS
         .iter()
         .find(|comparison| comparison.name == name);
     match comparison.unwrap().run(0..CASES) {
-        Ok(accepted) => {
+        Ok(counts) => {
             for &(call, least, refused) in calls {
-                let count = accepted[call];
+                let count = counts.accepted[call];
                 assert!(
                     count >= least && CASES - count >= refused,
                     "{call}: {count} accepted"
                 );
             }
+            counts
         }
         Err(difference) => panic!("{difference}"),
+    }
+}
+
+/// At least so many halves of every kind that there can be were met, with an even whole part and
+/// with an odd one, in sets made for halves and in the others together; none of another kind.
+fn met_halves(counts: Counts, least: [u64; 2]) {
+    let possible = KINDS.map(|(_, kind)| kind);
+    let (mut made, mut others) = (Halves::new(), Halves::new());
+    for (shape, halves) in counts.halves {
+        assert!(halves.keys().all(|kind| possible.contains(kind)));
+        match shape {
+            Shape::Halves => add(&mut made, halves),
+            _ => add(&mut others, halves),
+        }
+    }
+    for (halves, least) in [(made, least[0]), (others, least[1])] {
+        for (name, kind) in KINDS {
+            let met = halves.get(&kind).copied().unwrap_or_default();
+            assert!(met.iter().all(|&n| n >= least), "{name}: {met:?}");
+        }
     }
 }
 
@@ -53,13 +76,13 @@ fn files() {
         ("page refused 14", 50, 0),
         ("page refused 15", 2_000, 500),
     ];
-    the_same("files", &calls);
+    met_halves(the_same("files", &calls), [50, 10]);
 }
 
 #[test]
 fn damaged_files() {
     let calls = [("read", 200, 2_000), ("page refused 15", 200, 2_000)];
-    the_same("damaged files", &calls);
+    met_halves(the_same("damaged files", &calls), [0, 0]);
 }
 
 #[test]
@@ -128,7 +151,7 @@ fn inputs() {
         ("text of method 2, basis 1", 100, 0),
         ("too short", 500, 1_500),
     ];
-    the_same("inputs", &texts);
+    met_halves(the_same("inputs", &texts), [3, 0]);
 }
 
 #[test]

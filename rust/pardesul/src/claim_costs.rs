@@ -60,7 +60,7 @@ impl TriangleSet {
     /// let paid = Triangle::from_rows(&[&[600, 400], &[660]]);
     /// let costs = TriangleSet { m: 2, counts, paid, incurred: None }.claim_costs()?;
     /// assert_eq!((costs.mu, costs.factors), (10.0, vec![1_000.0 / 600.0]));
-    /// let ratio = Inflation::Ratio(1_100.0 / 113.0 / 10.0);
+    /// let ratio = Inflation::Ratio(1_100.0 / 112.0 / 10.0);
     /// assert_eq!(costs.inflations, [Inflation::BaseYear, ratio]);
     /// # Ok::<(), pardesul::Refusal>(())
     /// ```

@@ -15,7 +15,7 @@ const LONGEST: usize = 2_573;
 /// let paid = Triangle::from_rows(&[&[600, 400], &[660]]);
 /// let set = TriangleSet { m: 2, counts, paid, incurred: None };
 /// let input = [b"2 0 1\n", &set.to_file()?[..]].concat();
-/// assert_eq!(respond(&input), b"1 338 165 503\n2 0 69 69\nT 338 234 572\n");
+/// assert_eq!(respond(&input), b"1 337 165 502\n2 0 69 69\nT 337 234 571\n");
 /// assert_eq!(respond(b"2 0 1\n"), b"refused 2\n");
 /// # Ok::<(), pardesul::Refusal>(())
 /// ```

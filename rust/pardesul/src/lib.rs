@@ -13,9 +13,12 @@
 //! };
 //! let forecast = set.forecast(Method::Dcl, Basis::Estimated)?;
 //! assert_eq!((forecast.rbns(2, 1), forecast.ibnr(2, 1)), (275, 165));
-//! assert_eq!(forecast.tally().rbns[0], 338);
+//! assert_eq!(forecast.tally().rbns[0], 337);
 //! # Ok::<(), pardesul::Refusal>(())
 //! ```
+//!
+//! Each share, ultimate, delay, weight, row base and cell is a quotient rounded to the nearest
+//! whole number, halves to the even one: the 337 above are 275 and 62, of 62.5.
 //!
 //! It is written to a file and read from one; a call on the file is a function of the same name:
 //!

@@ -56,9 +56,9 @@ impl TriangleSet {
     /// let set = TriangleSet { m: 2, counts, paid, incurred: None };
     /// let page = "\
     /// YEAR                 RBNS                 IBNR                TOTAL
-    ///    1                  338                  165                  503
+    ///    1                  337                  165                  502
     ///    2                    0                   69                   69
-    ///  ALL                  338                  234                  572
+    ///  ALL                  337                  234                  571
     /// ";
     /// assert_eq!(set.closing_page(Method::Dcl, Basis::Estimated)?, page);
     /// assert_eq!(set.closing_page(Method::Bdcl, Basis::Estimated).unwrap_err().number(), 6);

@@ -49,7 +49,7 @@ impl TriangleSet {
     /// let counts = Triangle::from_rows(&[&[80, 20], &[90]]);
     /// let paid = Triangle::from_rows(&[&[600, 400], &[660]]);
     /// let shares = TriangleSet { m: 2, counts, paid, incurred: None }.shares()?;
-    /// assert_eq!((shares.n, shares.u), (vec![100, 113], vec![1_000, 1_100]));
+    /// assert_eq!((shares.n, shares.u), (vec![100, 112], vec![1_000, 1_100]));
     /// # Ok::<(), pardesul::Refusal>(())
     /// ```
     ///

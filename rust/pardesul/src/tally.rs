@@ -7,8 +7,8 @@ use crate::calls;
 /// ```
 /// use pardesul::Tally;
 ///
-/// let tally = Tally::zero().add(1, 275, 165).add(1, 63, 0);
-/// assert_eq!((tally.rbns[0], tally.ibnr[0]), (338, 165));
+/// let tally = Tally::zero().add(1, 275, 165).add(1, 62, 0);
+/// assert_eq!((tally.rbns[0], tally.ibnr[0]), (337, 165));
 /// assert_eq!(tally.clone().add(1, i64::MAX, 0), tally);
 /// ```
 #[derive(Clone, Debug, PartialEq, Eq)]

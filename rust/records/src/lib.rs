@@ -2,6 +2,7 @@
 //! say whether it is current.
 
 mod figures;
+mod halves;
 mod kit;
 mod source_002;
 mod speed;
@@ -32,6 +33,7 @@ pub fn text(
 ) -> Result<String, String> {
     let sections = [
         source_002::section().map_err(|refusal| refusal.to_string())?,
+        halves::section(),
         speed::section(rows),
         stack::section(stacks),
         figures::section(seconds).map_err(|error| error.to_string())?,

@@ -42,6 +42,10 @@ impl Big {
         !self.negative && !self.is_zero()
     }
 
+    pub fn is_even(&self) -> bool {
+        self.limbs.first().is_none_or(|limb| limb % 2 == 0)
+    }
+
     pub fn abs(&self) -> Big {
         Big::from_parts(false, self.limbs.clone())
     }

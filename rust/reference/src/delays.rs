@@ -1,6 +1,7 @@
 //! 01, Delays: the triangular system.
 
 use crate::big::Big;
+use crate::halves::Quotient::Delay;
 use crate::records::{read_set, Refusal};
 use crate::rounding::{r, scale};
 use crate::shares::{estimates, list, Estimates};
@@ -10,7 +11,7 @@ pub fn solve(b: &[Big], q: &[Big]) -> Vec<Big> {
     let mut p: Vec<Big> = Vec::new();
     for l in 0..q.len() {
         let earlier: Big = (1..=l).map(|k| &b[k] * &p[l - k]).sum();
-        p.push(r(&(scale() * &q[l] - earlier), &b[0]));
+        p.push(r(Delay, &(scale() * &q[l] - earlier), &b[0]));
     }
     p
 }

@@ -1,4 +1,5 @@
-//! 01, Examples from a small shelf: each example once, for this calculation and for the library.
+//! 01, Examples from a small shelf, where halves went away from zero, with the numbers that 02, Job
+//! 4 prints in their place: each example once, for this calculation and for the library.
 
 use crate::back_test::{back_test, BackTest};
 use crate::calendar::closing;
@@ -73,7 +74,7 @@ pub enum Number {
     Overall,
 }
 
-/// What the document prints of an answer.
+/// What the documents print of an answer.
 pub enum Printed {
     Numbers(&'static [(Number, i64)]),
     Lines(&'static str),
@@ -172,10 +173,10 @@ pub const EXAMPLES: &[Example] = &[
         printed: Printed::Numbers(&[(P(0), 750_000_000), (P(1), 312_500_000)]),
     },
     Example {
-        says: "U = 1000, 1100; N = 100, 113",
+        says: "U = 1000, 1100; N = 100, and by 02, Job 4: N(2) = 112",
         rows: K,
         call: Call::Shares,
-        printed: Printed::Numbers(&[(U(1), 1000), (U(2), 1100), (N(1), 100), (N(2), 113)]),
+        printed: Printed::Numbers(&[(U(1), 1000), (U(2), 1100), (N(1), 100), (N(2), 112)]),
     },
     Example {
         says: "DCL, basis 1, year 2: delay 1 RBNS 275, IBNR 165, together 1100 - 660; delay 2: 0 and 69",
@@ -190,16 +191,16 @@ pub const EXAMPLES: &[Example] = &[
         ]),
     },
     Example {
-        says: "Year 1, delay 2: 63 and 0",
+        says: "Year 1, delay 2: by 02, Job 4 62, and 0",
         rows: K,
         call: DCL,
-        printed: Printed::Numbers(&[(Rbns(1, 2), 63), (Ibnr(1, 2), 0)]),
+        printed: Printed::Numbers(&[(Rbns(1, 2), 62), (Ibnr(1, 2), 0)]),
     },
     Example {
-        says: "`closing` on K without incurred, method 0, basis 1",
+        says: "`closing` on K without incurred, method 0, basis 1, by 02, Job 4",
         rows: K_WITHOUT_INCURRED,
         call: Call::Closing { line: "2 0 1\n" },
-        printed: Printed::Lines("1 338 165 503\n2 0 69 69\nT 338 234 572\n"),
+        printed: Printed::Lines("1 337 165 502\n2 0 69 69\nT 337 234 571\n"),
     },
     Example {
         says: "BDCL V(2) = 1200: delay 1 is 300 and 180",
@@ -208,10 +209,10 @@ pub const EXAMPLES: &[Example] = &[
         printed: Printed::Numbers(&[(Rbns(2, 1), 300), (Ibnr(2, 1), 180)]),
     },
     Example {
-        says: "IDCL V(2) = 1350: 338 and 203",
+        says: "IDCL V(2) = 1350: 338, and by 02, Job 4: 202",
         rows: K,
         call: IDCL,
-        printed: Printed::Numbers(&[(Rbns(2, 1), 338), (Ibnr(2, 1), 203)]),
+        printed: Printed::Numbers(&[(Rbns(2, 1), 338), (Ibnr(2, 1), 202)]),
     },
     Example {
         says: "Counts 25, 75 / 50, paid 750, 250 / 750: delays 3 × 10^9 and -8 × 10^9",
@@ -329,6 +330,16 @@ pub const EDGES: &[Edge] = &[
     incurred(&[&[1, 999], &[1]], [0, 0, 0]),
     incurred(&[&[4001, -3001], &[1000]], [0, 13, 13]),
     incurred(&[&[4000, -3000], &[1000]], [0, 0, 0]),
+    // Half a billionth past these goes to them, which are even.
+    incurred(&[&[1_999_999, 1_998_000_001], &[1]], [0, 0, 0]),
+    incurred(&[&[8_000_000_001, -6_000_000_001], &[1000]], [0, 0, 0]),
+    // g(0) of paid, half a billionth below 10^6.
+    edge(
+        ONE_COUNT,
+        &[&[1_999_999, 1_998_000_001], &[1]],
+        &[&[1, 0], &[1]],
+        [0, 0, 0],
+    ),
     // BDCL: V(2) = 10^6 × W(2) / 10.
     edge(
         ONE_COUNT,
@@ -341,6 +352,13 @@ pub const EDGES: &[Edge] = &[
         &[&[1_000_000, 0], &[1]],
         &[&[10, 0], &[2_000_000_001]],
         [0, 14, 0],
+    ),
+    // BDCL: V(2) = 21999 × W(2) / 6, where W(2) = 54547933997, half a unit past 2 × 10^14.
+    edge(
+        ONE_COUNT,
+        &[&[21_999, 0], &[1]],
+        &[&[1, 5], &[9_091_322_351]],
+        [0, 0, 0],
     ),
     // IDCL: V(2) = 200001 × R*.
     edge(
@@ -360,6 +378,13 @@ pub const EDGES: &[Edge] = &[
         ONE_COUNT,
         &[&[199_999, 1], &[199_999]],
         &[&[1_000_000_000, 0], &[1_000_199_999]],
+        [0, 0, 0],
+    ),
+    // IDCL: V(2) = 7333 × R* / 2, where R* = 54547933997, half a unit past 2 × 10^14.
+    edge(
+        ONE_COUNT,
+        &[&[7_331, 2], &[7_331]],
+        &[&[1, 7], &[6_818_492_666]],
         [0, 0, 0],
     ),
     // IDCL: V(2) = -paid × (paid + 1).
@@ -402,7 +427,7 @@ impl Example {
         answer.unwrap_or_else(Answer::Refused)
     }
 
-    /// Whether an answer is what the document prints; says what is not.
+    /// Whether an answer is what the documents print; says what is not.
     pub fn check(&self, answer: &Answer) -> Result<(), String> {
         let holds = match (&self.printed, answer) {
             (Printed::Numbers(numbers), _) => return self.check_numbers(answer, numbers),

@@ -2,6 +2,7 @@
 
 use crate::big::Big;
 use crate::delays::solved;
+use crate::halves::Quotient::{Cell, Weight};
 use crate::records::{read_set, Refusal, Set};
 use crate::rounding::{r, scale};
 use crate::row_bases::row_bases;
@@ -81,6 +82,7 @@ pub fn reported_shares(estimates: &Estimates, i: usize, basis: u64) -> Vec<Big> 
     let share = |k: usize| match basis {
         1 => estimates.b[k].clone(),
         _ => r(
+            Weight,
             &(counts.cell(i, k) * &estimates.count_g[latest]),
             &counts.c(i, latest),
         ),
@@ -102,5 +104,5 @@ fn cell_forecast(
         .filter(|&k| k <= j && j - k < m && chosen(k))
         .map(|k| &share[k] * &p[j - k])
         .sum();
-    r(&(v * total), &(scale() * scale()))
+    r(Cell, &(v * total), &(scale() * scale()))
 }

@@ -2,7 +2,7 @@
 //! its letters, with what document 02 has changed, and one each for the closing page and the claims
 //! journal of document 02. Every quantity is a whole number of any size, rounded only where the
 //! document rounds, so that nothing here depends on how large the numbers get; in the journal 64
-//! bits hold any sum.
+//! bits hold any sum. `halves` counts where the rounding met a half.
 
 pub mod back_test;
 pub mod big;
@@ -13,6 +13,7 @@ pub mod examples;
 pub mod forecast;
 pub mod fraction;
 pub mod generate;
+pub mod halves;
 pub mod journal;
 pub mod page;
 pub mod paid_reserve;

@@ -1,6 +1,7 @@
 //! 01, Row bases.
 
 use crate::big::Big;
+use crate::halves::Quotient::RowBase;
 use crate::records::{Refusal, Set};
 use crate::rounding::r;
 use crate::shares::{incurred_ultimates, Estimates};
@@ -38,7 +39,7 @@ fn dcl(u: &[Big]) -> RowBases {
 fn bdcl(u: &[Big], w: &[Big]) -> RowBases {
     RowBases {
         v: w.iter()
-            .map(|ultimate| r(&(&u[0] * ultimate), &w[0]))
+            .map(|ultimate| r(RowBase, &(&u[0] * ultimate), &w[0]))
             .collect(),
         leftovers: vec![Big::zero(); u.len()],
     }
@@ -55,7 +56,7 @@ fn idcl(estimates: &Estimates, w: &[Big]) -> RowBases {
         if reserve.is_zero() {
             bases.leftovers[at] = incurred_reserve;
         } else {
-            bases.v[at] = r(&(u * incurred_reserve), &reserve);
+            bases.v[at] = r(RowBase, &(u * incurred_reserve), &reserve);
         }
     }
     bases

@@ -1,6 +1,7 @@
 //! 01, Shares: the chain ladder of each triangle.
 
 use crate::big::Big;
+use crate::halves::Quotient::{Share, Ultimate};
 use crate::records::{cells, place, read_set, Refusal, Set, Values};
 use crate::rounding::{r, scale};
 
@@ -56,7 +57,7 @@ impl Triangle {
         let mut g = vec![Big::zero(); self.m];
         g[self.m - 1] = scale();
         for j in (1..self.m).rev() {
-            g[j - 1] = r(&(&g[j] * self.a(j)), &self.b(j));
+            g[j - 1] = r(Share, &(&g[j] * self.a(j)), &self.b(j));
         }
         g
     }
@@ -64,7 +65,7 @@ impl Triangle {
     /// The ultimate r(C(i,m-i) × S / g(m-i)) of row i at place i - 1.
     pub fn ultimates(&self, g: &[Big]) -> Vec<Big> {
         (1..=self.m)
-            .map(|i| r(&(self.latest(i) * scale()), &g[self.m - i]))
+            .map(|i| r(Ultimate, &(self.latest(i) * scale()), &g[self.m - i]))
             .collect()
     }
 }

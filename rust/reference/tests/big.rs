@@ -1,6 +1,7 @@
 //! The whole numbers of any size, against 128-bit arithmetic and by identities.
 
 use reference::generate::Random;
+use reference::halves::Quotient::Cell;
 use reference::rounding::r;
 use reference::Big;
 
@@ -46,6 +47,7 @@ fn agrees_with_128_bits() {
         assert_eq!(a.is_negative(), x < 0);
         assert_eq!(a.is_positive(), x > 0);
         assert_eq!(a.is_zero(), x == 0);
+        assert_eq!(a.is_even(), x % 2 == 0);
         assert_eq!(a.abs().to_i128(), Some(x.abs()));
         assert_eq!(a.to_string(), x.to_string());
         let product = &a * &b + Big::from(7i64);
@@ -147,12 +149,18 @@ fn decimal_text() {
 }
 
 #[test]
-fn halves_go_away_from_zero() {
-    let round = |a: i64, b: i64| r(&Big::from(a), &Big::from(b)).to_i64().unwrap();
-    assert_eq!(round(-5, 2), -3);
-    assert_eq!(round(5, 2), 3);
-    assert_eq!(round(1, 2), 1);
-    assert_eq!(round(-1, 2), -1);
+fn halves_go_to_even() {
+    let round = |a: i64, b: i64| r(Cell, &Big::from(a), &Big::from(b)).to_i64().unwrap();
+    assert_eq!(round(-5, 2), -2);
+    assert_eq!(round(-7, 2), -4);
+    assert_eq!(round(5, 2), 2);
+    assert_eq!(round(7, 2), 4);
+    assert_eq!(round(1, 2), 0);
+    assert_eq!(round(-1, 2), 0);
+    assert_eq!(round(3, 2), 2);
+    assert_eq!(round(-3, 2), -2);
+    assert_eq!(round(15, 6), 2);
+    assert_eq!(round(-21, 6), -4);
     assert_eq!(round(-1, 3), 0);
     assert_eq!(round(4, 3), 1);
     assert_eq!(round(5, 3), 2);
@@ -161,10 +169,11 @@ fn halves_go_away_from_zero() {
     assert_eq!(round(6, 3), 2);
 }
 
-/// 2 |a - b r| <= b, and r is further from zero than a/b where both are equally near.
+/// 2 |a - b r| <= b, and r is even where another is as near, of both signs and in both directions.
 #[test]
 fn rounded_quotients_are_nearest() {
     let mut random = Random::new(4);
+    let mut halves = [[0; 2]; 2];
     for round in 0..20_000 {
         let b = any_big(&mut random, 3).abs() + Big::from(1i64);
         let a = if round % 4 == 0 {
@@ -173,14 +182,17 @@ fn rounded_quotients_are_nearest() {
         } else {
             any_big(&mut random, 5)
         };
-        let nearest = r(&a, &b);
+        let nearest = r(Cell, &a, &b);
         let off = (&a - &b * &nearest).abs();
         let twice = &off + &off;
         assert!(twice <= b);
         if twice == b {
-            assert!((&b * &nearest).abs() > a.abs());
+            assert!(nearest.div_rem(&Big::from(2i64)).1.is_zero());
+            let away = (&b * &nearest).abs() > a.abs();
+            halves[usize::from(a.is_negative())][usize::from(away)] += 1;
         }
     }
+    assert!(halves.iter().flatten().all(|&n| n > 200), "{halves:?}");
 }
 
 /// b/2 where b is even, else zero.

@@ -1,4 +1,4 @@
-//! Every example of document 01, and values that follow from its formulas by hand.
+//! Every example of the documents, and values that follow from their formulas by hand.
 
 use reference::examples::{set, set_k, EXAMPLES};
 use reference::forecast::entry;
@@ -29,9 +29,9 @@ fn printed_examples() {
 #[test]
 fn entries_of_k() {
     let forecast = |method| forecast(&file(&set_k()), 2, method, 1, 12).unwrap();
-    let entries = [0, 0, 0, 0, 63, 0, 0, 0, 275, 165, 0, 69];
+    let entries = [0, 0, 0, 0, 62, 0, 0, 0, 275, 165, 0, 69];
     assert_eq!(forecast(0).entries, entries);
-    assert_eq!(cell(&forecast(2), 2, 1, 2), (63, 0));
+    assert_eq!(cell(&forecast(2), 2, 1, 2), (62, 0));
     assert_eq!(forecast(0).leftovers, [0; 20]);
     assert_eq!(forecast(2).leftovers, [0; 20]);
 }
@@ -76,7 +76,7 @@ fn claim_costs_of_k() {
     assert_eq!(costs.factors[0], 1000.0 / 600.0);
     assert_eq!(costs.factors[1..], [0.0; 19]);
     assert_eq!(costs.inflations[0], Inflation::BaseYear);
-    assert_eq!(costs.inflations[1], Inflation::Ratio(1100.0 / 113.0 / 10.0));
+    assert_eq!(costs.inflations[1], Inflation::Ratio(1100.0 / 112.0 / 10.0));
     assert_eq!(costs.inflations[2..], [Inflation::NoPaymentsYet; 18]);
 }
 

@@ -10,8 +10,8 @@ use lib.Signed.{quotZ, remZ}
 use mir.Syntax.{w64}
 use mir.Val.{SFits, ofZ}
 use mir.Facts.{toZ-ofZ}
-use Rattle.integers.specs.Parts.{_⩽_, _⋖_, ints}
-use Rattle.integers.specs.Order.{nonneg, natAbs-negℤ}
+use Rattle.integers.specs.Parts.{_⋖_, ints}
+use Rattle.integers.specs.Order.{natAbs-negℤ}
 use Rattle.integers.specs.Solver.{ring, form}
 use Rattle.model.specs.Rounding.{r}
 use Rattle.arithmetic.specs.Words.{fits-abs}
@@ -21,7 +21,6 @@ use Rattle.arithmetic.proofs.round_div.Tie as tie
 -- division toward zero, of a by b above zero
 record Truncated (a b : ℤ) : Type 0 where
   whole : quotZ a b *ℤ b +ℤ remZ a b ≡ a
-  sign : pos 0 ⩽ quotZ a b *ℤ remZ a b
   quot : natAbs (quotZ a b) ≤ natAbs a
   rem : natAbs (remZ a b) < natAbs b
   some : 0 < ofZ w64 b
@@ -30,19 +29,18 @@ truncated : (a b : ℤ) → pos 0 ⋖ b → Truncated a b
 truncated a (negsuc b) h = absurd (h .lt)
 truncated (pos a) (pos b) h =
     let b>0 : 0 < b = omega (arith, ints) in
-    record { whole = ap pos (div-add-mod' a b); sign = nonneg (a / b * (a % b)); quot = div-le-self a b; rem = mod-lt a b>0; some = b>0 }
+    record { whole = ap pos (div-add-mod' a b); quot = div-le-self a b; rem = mod-lt a b>0; some = b>0 }
 truncated (negsuc a) (pos b) h =
     let b>0 : 0 < b = omega (arith, ints) in
     record {
-      whole = signs (pos (suc a / b)) (pos b) (pos (suc a % b)) .0 ∙ ap (λ (n : ℕ). negℤ (pos n)) (div-add-mod' (suc a) b);
-      sign = rw (signs (pos (suc a / b)) (pos b) (pos (suc a % b)) .1) (nonneg (suc a / b * (suc a % b)));
+      whole = opposite (pos (suc a / b)) (pos b) (pos (suc a % b)) ∙ ap (λ (n : ℕ). negℤ (pos n)) (div-add-mod' (suc a) b);
       quot = rw natAbs-negℤ (div-le-self (suc a) b);
       rem = rw natAbs-negℤ (mod-lt (suc a) b>0);
       some = b>0;
     }
   where
-    signs : (x b y : ℤ) → (negℤ x *ℤ b +ℤ negℤ y ≡ negℤ (x *ℤ b +ℤ y)) × (negℤ x *ℤ negℤ y ≡ x *ℤ y)
-    signs x b y = (ring (x ∷ b ∷ y ∷ []) (search form depth 20) tt, ring (x ∷ y ∷ []) (search form depth 20) tt)
+    opposite : (x b y : ℤ) → negℤ x *ℤ b +ℤ negℤ y ≡ negℤ (x *ℤ b +ℤ y)
+    opposite x b y = ring (x ∷ b ∷ y ∷ []) (search form depth 20) tt
 
 module _ (c : tie.Start) where
   parts : Truncated (c .args .a) (c .args .b)
@@ -60,7 +58,7 @@ div-round-quotient c = (parts c .some, rw (toZ-ofZ (c .fits .a), toZ-ofZ (c .fit
 round-quotient-requires : tie.Need-round-quotient-requires
 round-quotient-requires c κs =
     rw (toZ-ofZ (c .fits .a), toZ-ofZ (c .fits .b), toZ-ofZ (quot-fits c), toZ-ofZ (rem-fits c))
-    (c .pre .0, c .pre .1, parts c .rem, parts c .sign, omega (arith, parts c .quot))
+    (c .pre .0, c .pre .1, parts c .rem, omega (arith, parts c .quot))
 
 returns : tie.Need-returns
 returns c =

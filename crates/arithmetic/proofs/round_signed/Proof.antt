@@ -10,7 +10,6 @@ use mir.Val.{toZ, ofZ}
 use mir.Facts.{toZ-ofZ, toZ-pos}
 use borrow.Author.Needs.{needs}
 use Rattle.integers.specs.Parts.{_⋖_}
-use Rattle.integers.specs.Order.{nonneg}
 use Rattle.integers.specs.Solver.{ring, form}
 use Rattle.model.specs.Rounding.{r}
 use Rattle.arithmetic.specs.RoundingLaws.{r-abs}
@@ -47,7 +46,7 @@ k-is c =
 round-quotient-requires : tie.Need-round-quotient-requires
 round-quotient-requires c κs =
     rw (toZ-ofZ (c .fits .d), q-back c, rem-back c)
-    (c .pre .0, c .pre .1, c .pre .2, nonneg (c .args .q * c .args .rem), omega arith)
+    (c .pre .0, c .pre .1, c .pre .2, omega arith)
 
 returns : tie.Need-returns
 returns c =

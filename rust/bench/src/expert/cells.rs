@@ -23,20 +23,34 @@ impl Base {
         }
     }
 
-    /// r(V × sum / S²), the sum in two parts as well: so each product fits 64 bits, and what is
-    /// below S in the end does not move a half.
+    /// r(V × sum / S²), the sum in two parts as well, so that each product fits 64 bits. What is
+    /// below S in the end matters only at a half.
     fn cell(&self, sum: i64) -> i64 {
         if sum == 0 {
             return 0;
         }
         let (size, scale) = (sum.unsigned_abs(), SCALE as u64);
         let (high, low) = (size / scale, size % scale);
-        let middle = self.high * low + self.low * high + self.low * low / scale;
-        let rounded = (self.high * high + (middle + scale / 2) / scale) as i64;
+        let middle = self.high * low + self.low * high + self.low * low / scale + scale / 2;
+        let mut rounded = (self.high * high + middle / scale) as i64;
+        if middle.is_multiple_of(scale) {
+            rounded = self.at_half(low, rounded);
+        }
         if self.is_negative != (sum < 0) {
             -rounded
         } else {
             rounded
+        }
+    }
+
+    /// The number above a half, or the even one where nothing is left below S.
+    #[cold]
+    #[inline(never)]
+    fn at_half(&self, low: u64, above: i64) -> i64 {
+        if (self.low * low).is_multiple_of(SCALE as u64) {
+            above & !1
+        } else {
+            above
         }
     }
 }

@@ -27,10 +27,12 @@ pub use shares::shares;
 /// S.
 const SCALE: i64 = 1_000_000_000;
 
-/// The nearest whole number to a / b, with b above zero; halves go away from zero.
+/// The nearest whole number to a / b, with b above zero; halves go to the even one, as an odd
+/// quotient tips them.
 fn nearest(a: i64, b: i64) -> i64 {
-    let b = b as u64;
-    let rounded = ((a.unsigned_abs() + b / 2) / b) as i64;
+    let (size, b) = (a.unsigned_abs(), b as u64);
+    let (quotient, rest) = (size / b, size % b);
+    let rounded = (quotient + u64::from(2 * rest + (quotient & 1) > b)) as i64;
     if a < 0 {
         -rounded
     } else {
@@ -38,11 +40,15 @@ fn nearest(a: i64, b: i64) -> i64 {
     }
 }
 
-/// The nearest whole number to a × b / c, with c above zero.
+/// The nearest whole number to a × b / c, with c above zero. What is left of a division fits 64
+/// bits, whatever the quotient does.
 fn nearest_of_product(a: i64, b: i64, c: i64) -> i128 {
     let product = i128::from(a) * i128::from(b);
-    let c = c as u128;
-    let rounded = ((product.unsigned_abs() + c / 2) / c) as i128;
+    let (size, c) = (product.unsigned_abs(), c as u64);
+    let quotient = size / u128::from(c);
+    let rest = (size as u64).wrapping_sub((quotient as u64).wrapping_mul(c));
+    let up = 2 * rest + (quotient as u64 & 1) > c;
+    let rounded = quotient as i128 + i128::from(up);
     if product < 0 {
         -rounded
     } else {

@@ -27,11 +27,13 @@ pub use shares::{shares, Shares};
 /// S.
 const SCALE: i128 = 1_000_000_000;
 
-/// The nearest whole number to a / b, with b above zero; halves go away from zero.
+/// The nearest whole number to a / b, with b above zero; halves go to the even one.
 fn nearest(a: i128, b: i128) -> i128 {
-    if a < 0 {
-        -((b / 2 - a) / b)
+    let quotient = a / b;
+    let twice = 2 * (a - quotient * b).abs();
+    if twice < b || (twice == b && quotient % 2 == 0) {
+        quotient
     } else {
-        (a + b / 2) / b
+        quotient + a.signum()
     }
 }

@@ -3,13 +3,16 @@
 use super::{arguments, both_ways, fixed, method_and_basis};
 use crate::difference::{same, Difference};
 use crate::memory::Memory;
+use crate::Counts;
 use pardesul::{calls, BackTest};
 use reference::generate::Case;
 
-pub fn compare(seed: u64, case: &Case) -> Result<bool, Difference> {
+pub fn compare(seed: u64, case: &Case, counts: &mut Counts) -> Result<bool, Difference> {
     let text = || arguments(seed, case);
     let (file, m, c) = (&case.file, case.m as usize, case.cut as usize);
-    let wanted = reference::back_test(file, case.m, case.cut, case.method, case.basis);
+    let wanted = counts.answer(seed, || {
+        reference::back_test(file, case.m, case.cut, case.method, case.basis)
+    });
 
     let mut memory = Memory::<u64>::new(seed, &[4]);
     let [sums] = memory.lists().map(fixed);

@@ -3,6 +3,7 @@
 use super::{arguments, both_ways, fixed};
 use crate::difference::{same, Difference};
 use crate::memory::Memory;
+use crate::Counts;
 use pardesul::calls;
 use reference::generate::Case;
 
@@ -10,10 +11,10 @@ use reference::generate::Case;
 /// none.
 type Bits = (u64, Vec<u64>, Vec<(u8, u64)>);
 
-pub fn compare(seed: u64, case: &Case) -> Result<bool, Difference> {
+pub fn compare(seed: u64, case: &Case, counts: &mut Counts) -> Result<bool, Difference> {
     let text = || arguments(seed, case);
     let (file, m) = (&case.file, case.m as usize);
-    let wanted = reference::claim_costs(file, case.m);
+    let wanted = counts.answer(seed, || reference::claim_costs(file, case.m));
 
     let mut floats = Memory::new(seed, &[1, 20, 20]);
     let mut bytes = Memory::new(seed, &[20]);

@@ -3,14 +3,17 @@
 use super::{arguments, both_ways, fixed, method_and_basis};
 use crate::difference::{same, Difference};
 use crate::memory::Memory;
+use crate::Counts;
 use pardesul::calls;
 use reference::forecast::entry_count;
 use reference::generate::Case;
 
-pub fn compare(seed: u64, case: &Case) -> Result<bool, Difference> {
+pub fn compare(seed: u64, case: &Case, counts: &mut Counts) -> Result<bool, Difference> {
     let text = || arguments(seed, case);
     let (file, m, room) = (&case.file, case.m as usize, case.out_len);
-    let wanted = reference::forecast(file, case.m, case.method, case.basis, room);
+    let wanted = counts.answer(seed, || {
+        reference::forecast(file, case.m, case.method, case.basis, room)
+    });
 
     let mut memory = Memory::new(seed, &[room, 20]);
     let [out, leftovers] = memory.lists();

@@ -12,12 +12,12 @@ pub use page::compare_file as closing_page;
 pub use reader::compare_file as read_set;
 
 use crate::difference::{hexadecimal, same, Difference};
-use crate::Accepted;
+use crate::Counts;
 use pardesul::{Basis, Method, Refusal, TriangleSet};
-use reference::generate::{any_set, case, shuffled_file, Case, Random};
+use reference::generate::{case, set_of, shuffled_file, Case, Random};
 
 /// A call on a case; says whether it was accepted.
-type Call = fn(u64, &Case) -> Result<bool, Difference>;
+type Call = fn(u64, &Case, &mut Counts) -> Result<bool, Difference>;
 
 const CALLS: [(&str, Call); 6] = [
     ("read", reader::compare),
@@ -29,22 +29,23 @@ const CALLS: [(&str, Call); 6] = [
 ];
 
 /// Every call on a case.
-pub fn compare(seed: u64, case: &Case, accepted: &mut Accepted) -> Result<(), Difference> {
+pub fn compare(seed: u64, case: &Case, counts: &mut Counts) -> Result<(), Difference> {
     for (name, call) in CALLS {
-        *accepted.entry(name).or_default() += u64::from(call(seed, case)?);
+        let accepted = call(seed, case, counts)?;
+        counts.count(name, accepted);
     }
-    page::compare(seed, case, accepted)
+    page::compare(seed, case, counts)
 }
 
 /// Every call on the seed's case.
-pub fn of_case(seed: u64, accepted: &mut Accepted) -> Result<(), Difference> {
-    compare(seed, &case(seed), accepted)
+pub fn of_case(seed: u64, counts: &mut Counts) -> Result<(), Difference> {
+    compare(seed, &case(seed), counts)
 }
 
-/// Every call on the file of any set with bytes changed, dropped or added at random.
-pub fn of_damaged(seed: u64, accepted: &mut Accepted) -> Result<(), Difference> {
+/// Every call on the file of the seed's set with bytes changed, dropped or added at random.
+pub fn of_damaged(seed: u64, counts: &mut Counts) -> Result<(), Difference> {
     let mut random = Random::new(seed);
-    let set = any_set(&mut random);
+    let set = set_of(seed, &mut random);
     let mut file = shuffled_file(&mut random, &set);
     for _ in 0..random.between(1, 3) {
         let (at, any) = (random.below(file.len() + 1), random.number() as u8);
@@ -65,7 +66,7 @@ pub fn of_damaged(seed: u64, accepted: &mut Accepted) -> Result<(), Difference> 
         out_len: 1_560,
         cut: 1,
     };
-    compare(seed, &case, accepted)
+    compare(seed, &case, counts)
 }
 
 /// The arguments of a case; the file in hexadecimal.

@@ -3,7 +3,7 @@
 use super::both_ways;
 use crate::difference::{hexadecimal, same, Difference};
 use crate::memory::Memory;
-use crate::Accepted;
+use crate::Counts;
 use pardesul::{calls, Basis, Method};
 use reference::generate::{Case, Random};
 use reference::page::page_length;
@@ -46,21 +46,21 @@ type Answer = Result<String, u64>;
 
 /// The page under every method and basis, and under the case's own where there are no such: each
 /// time in bytes that are too few and in bytes that are enough, as the safe crate's always are.
-pub fn compare(seed: u64, case: &Case, accepted: &mut Accepted) -> Result<(), Difference> {
+pub fn compare(seed: u64, case: &Case, counts: &mut Counts) -> Result<(), Difference> {
     let mut random = Random::new(seed ^ (1 << 43));
     let mut refusals = BTreeSet::new();
-    let mut both_lengths = |settings: Settings| -> Result<Answer, Difference> {
+    let mut both_lengths = |settings: Settings, counts: &mut Counts| {
         let needed = page_length(case.m.clamp(1, 21) as usize);
         let short = random.pick(&[needed - 1, needed - 1, needed / 2, 1, 0]);
         let enough = needed + random.pick(&[0, 0, 1, 100, 4_096]);
-        let refused = compare_file(seed, &case.file, settings, short)?.err();
-        let answer = compare_file(seed, &case.file, settings, enough)?;
+        let refused = compare_file(seed, &case.file, settings, short, counts)?.err();
+        let answer = compare_file(seed, &case.file, settings, enough, counts)?;
         refusals.extend([refused, answer.as_ref().err().copied()]);
         Ok(answer)
     };
     for (method, basis, name) in PAIRS {
         let settings = [case.m, method as u64, basis as u64];
-        let wanted = both_lengths(settings)?;
+        let wanted = both_lengths(settings, counts)?;
         let ways = both_ways(
             case,
             |file, m| pardesul::closing_page(file, m, method, basis),
@@ -70,13 +70,13 @@ pub fn compare(seed: u64, case: &Case, accepted: &mut Accepted) -> Result<(), Di
             let text = || arguments(seed, &case.file, settings);
             same(&format!("page {way}"), &found, &wanted, text)?;
         }
-        *accepted.entry(name).or_default() += u64::from(wanted.is_ok());
+        counts.count(name, wanted.is_ok());
     }
     if case.method > 2 || case.basis > 1 {
-        both_lengths([case.m, case.method, case.basis])?.ok();
+        both_lengths([case.m, case.method, case.basis], counts)?.ok();
     }
     for refusal in refusals.into_iter().flatten() {
-        *accepted.entry(REFUSED[refusal as usize - 1]).or_default() += 1;
+        counts.count(REFUSED[refusal as usize - 1], true);
     }
     Ok(())
 }
@@ -87,10 +87,13 @@ pub fn compare_file(
     file: &[u8],
     settings: Settings,
     room: usize,
+    counts: &mut Counts,
 ) -> Result<Answer, Difference> {
     let [m, method, basis] = settings;
     let text = || format!("page of {room} bytes, {}", arguments(seed, file, settings));
-    let wanted = reference::closing_page(file, m, method, basis, room);
+    let wanted = counts.answer(seed, || {
+        reference::closing_page(file, m, method, basis, room)
+    });
 
     let mut memory = Memory::new(seed, &[room]);
     let [page] = memory.lists();

@@ -3,11 +3,12 @@
 use super::{fixed, numbered};
 use crate::difference::{hexadecimal, same, same_list, Difference};
 use crate::memory::Memory;
+use crate::Counts;
 use pardesul::{calls, Triangle, TriangleSet};
 use reference::generate::{file as file_of, Case};
 use reference::{read_set, Set};
 
-pub fn compare(seed: u64, case: &Case) -> Result<bool, Difference> {
+pub fn compare(seed: u64, case: &Case, _: &mut Counts) -> Result<bool, Difference> {
     compare_file(seed, &case.file, case.m)
 }
 

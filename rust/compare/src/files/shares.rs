@@ -3,13 +3,14 @@
 use super::{arguments, both_ways, fixed};
 use crate::difference::{same, Difference};
 use crate::memory::Memory;
+use crate::Counts;
 use pardesul::{calls, Shares};
 use reference::generate::Case;
 
-pub fn compare(seed: u64, case: &Case) -> Result<bool, Difference> {
+pub fn compare(seed: u64, case: &Case, counts: &mut Counts) -> Result<bool, Difference> {
     let text = || arguments(seed, case);
     let (file, m) = (&case.file, case.m as usize);
-    let wanted = reference::shares(file, case.m);
+    let wanted = counts.answer(seed, || reference::shares(file, case.m));
 
     let mut memory = Memory::new(seed, &[20; 5]);
     let [b, n, q, g, u] = memory.lists().map(fixed);

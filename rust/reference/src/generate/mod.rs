@@ -4,6 +4,7 @@
 mod damage;
 mod edges;
 mod faults;
+mod halves;
 mod incurred;
 mod journals;
 mod patterns;
@@ -13,10 +14,13 @@ mod sets;
 pub use faults::{Fault, PAIRS};
 pub use journals::{any_journal, journal_case, JournalCase, Made, Spot};
 pub use random::Random;
-pub use sets::any_set;
+pub use sets::{any_set, set_of, shape_of, Shape};
 
-use crate::forecast::entry_count;
+use crate::forecast::{entry_count, forecast};
+use crate::halves::{add, during, Halves};
 use crate::records::{cells, file_length, place, write_set, Set, Values};
+use std::collections::BTreeMap;
+use std::ops::Range;
 
 /// The arguments of every call that takes a file.
 #[derive(Clone, Debug)]
@@ -32,7 +36,7 @@ pub struct Case {
 /// The case of a seed.
 pub fn case(seed: u64) -> Case {
     let mut random = Random::new(seed);
-    let mut set = any_set(&mut random);
+    let mut set = set_of(seed, &mut random);
     let method = any_method(&mut random, &set);
     match random.below(9) {
         0 => damage::unfit_shares(&mut random, &mut set),
@@ -61,6 +65,29 @@ pub fn case(seed: u64) -> Case {
         out_len: any_length(&mut random, entry_count(set.m)),
         cut: any_cut(&mut random, m),
     }
+}
+
+/// Accepted forecasts, and the halves that they met.
+#[derive(Default)]
+pub struct Met {
+    pub forecasts: u64,
+    pub halves: Halves,
+}
+
+/// What the forecasts of these seeds' cases met, by the shape of the set.
+pub fn halves_met(seeds: Range<u64>) -> BTreeMap<Shape, Met> {
+    let mut met: BTreeMap<Shape, Met> = BTreeMap::new();
+    for seed in seeds {
+        let case = case(seed);
+        let (answer, halves) =
+            during(|| forecast(&case.file, case.m, case.method, case.basis, case.out_len));
+        if answer.is_ok() {
+            let met = met.entry(shape_of(seed)).or_default();
+            met.forecasts += 1;
+            add(&mut met.halves, halves);
+        }
+    }
+    met
 }
 
 /// The usual value, and now and then one of the others.

@@ -1,6 +1,7 @@
 //! Sets of many shapes, with every value in its range.
 
 use super::edges::last_accepted;
+use super::halves::{halves, incurred_halves};
 use super::incurred::fill_incurred;
 use super::patterns::{spread, weights};
 use super::random::Random;
@@ -8,28 +9,100 @@ use crate::delays::solved;
 use crate::records::{cells, place, range, Set};
 use crate::shares::estimates;
 
-/// A set of any size and shape, with or without incurred.
-pub fn any_set(random: &mut Random) -> Set {
+/// How a set is made.
+#[derive(Clone, Copy, Debug, PartialEq, Eq, PartialOrd, Ord)]
+pub enum Shape {
+    Tidy,
+    Wild,
+    Limits,
+    Sparse,
+    Settled,
+    EvenParts,
+    UnpaidYears,
+    Halves,
+}
+
+impl Shape {
+    /// The name in reports.
+    pub fn name(self) -> &'static str {
+        match self {
+            Shape::Tidy => "tidy",
+            Shape::Wild => "wild",
+            Shape::Limits => "limits",
+            Shape::Sparse => "sparse",
+            Shape::Settled => "settled",
+            Shape::EvenParts => "even parts",
+            Shape::UnpaidYears => "unpaid years",
+            Shape::Halves => "halves",
+        }
+    }
+
+    fn fill(self, random: &mut Random, set: &mut Set) {
+        match self {
+            Shape::Tidy => tidy(random, set),
+            Shape::Wild => wild(random, set),
+            Shape::Limits => limits(random, set),
+            Shape::Sparse => sparse(random, set),
+            Shape::Settled => settled(random, set),
+            Shape::EvenParts => even_parts(random, set),
+            Shape::UnpaidYears => unpaid_years(random, set),
+            Shape::Halves => halves(random, set),
+        }
+        match self {
+            _ if !set.has_incurred => {}
+            Shape::Halves => incurred_halves(random, set),
+            _ => fill_incurred(random, set),
+        }
+    }
+}
+
+/// An empty set, and its shape.
+fn any_frame(random: &mut Random) -> (Set, Shape) {
     let largest = random.pick(&[4, 12, 12, 20]);
     let m = if random.one_in(25) {
         20
     } else {
         random.between(2, largest) as usize
     };
-    let mut set = Set::empty(m, random.below(4) > 0);
-    match random.below(11) {
-        0..=3 => tidy(random, &mut set),
-        4 | 5 => wild(random, &mut set),
-        6 => limits(random, &mut set),
-        7 => sparse(random, &mut set),
-        8 => settled(random, &mut set),
-        9 => even_parts(random, &mut set),
-        _ => unpaid_years(random, &mut set),
-    }
-    if set.has_incurred {
-        fill_incurred(random, &mut set);
-    }
+    let set = Set::empty(m, random.below(4) > 0);
+    let shape = match random.below(11) {
+        0..=3 => Shape::Tidy,
+        4 | 5 => Shape::Wild,
+        6 => Shape::Limits,
+        7 => Shape::Sparse,
+        8 => Shape::Settled,
+        9 => Shape::EvenParts,
+        _ => Shape::UnpaidYears,
+    };
+    (set, shape)
+}
+
+/// A set of any size and any shape but `Halves`, with or without incurred.
+pub fn any_set(random: &mut Random) -> Set {
+    let (mut set, shape) = any_frame(random);
+    shape.fill(random, &mut set);
     set
+}
+
+/// Those of a seed: each eighth one is for halves.
+fn frame(seed: u64, random: &mut Random) -> (Set, Shape) {
+    let (set, shape) = any_frame(random);
+    match seed % 8 {
+        0 => (set, Shape::Halves),
+        _ => (set, shape),
+    }
+}
+
+/// The set of a seed.
+pub fn set_of(seed: u64, random: &mut Random) -> Set {
+    let (mut set, shape) = frame(seed, random);
+    shape.fill(random, &mut set);
+    set
+}
+
+/// Its shape.
+pub fn shape_of(seed: u64) -> Shape {
+    frame(seed, &mut Random::new(seed)).1
 }
 
 /// Falling patterns with some noise.
@@ -45,7 +118,7 @@ fn tidy(random: &mut Random, set: &mut Set) {
 }
 
 /// A count in every row, and a payment in the first.
-fn some_count_and_payment(set: &mut Set) {
+pub fn some_count_and_payment(set: &mut Set) {
     for i in 1..=set.m {
         let count = &mut set.counts[place(i, 0)];
         *count = (*count).max(1);
@@ -168,7 +241,7 @@ fn unpaid_years(random: &mut Random, set: &mut Set) {
     }
 }
 
-/// Rows in eighths, tenths or sixteenths, so that exact halves come up in many places.
+/// Rows in eighths, tenths or sixteenths, so that halves come up in many places.
 fn even_parts(random: &mut Random, set: &mut Set) {
     set.m = random.between(2, 6) as usize;
     for kind in 0..2 {

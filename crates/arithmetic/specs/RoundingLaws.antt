@@ -148,6 +148,12 @@ r-abs-least (negsuc a) (pos b) c h l =
 
 -- ---- from a quotient and a remainder
 
+-- with both signs turned
+pub r-mirror : (q c b : ℤ) → pos 0 ⋖ b → r (q *ℤ b +ℤ c) b ≡ negℤ (r (negℤ q *ℤ b +ℤ negℤ c) b)
+r-mirror q c b h =
+    let e : q *ℤ b +ℤ c ≡ negℤ (negℤ q *ℤ b +ℤ negℤ c) = ring (q ∷ c ∷ b ∷ []) (search form depth 20) tt in
+    ap (λ (z : ℤ). r z b) e ∙ r-neg (negℤ q *ℤ b +ℤ negℤ c) b h
+
 -- a remainder below half of b
 pub r-quotient : (q c b : ℤ) → pos 0 ⋖ b → negℤ b ⋖ pos 2 *ℤ c → pos 2 *ℤ c ⋖ b → r (q *ℤ b +ℤ c) b ≡ q
 r-quotient q c b h l u =
@@ -167,9 +173,9 @@ up-to-half k c b h e l =
     (λ t. let g = ltb-false (2 * c) b t in rw (t, le-ltb b (2 * c) l) (omega arith)))
 
 -- and from half of b on, where k + 1 is even
-from-half : (k c b : ℕ) → 0 < b → suc k % 2 ≡ 0 → b ≤ 2 * c → c < b → nearest (k * b + c) b ≡ suc k
+from-half : (k c b : ℕ) → suc k % 2 ≡ 0 → b ≤ 2 * c → c < b → nearest (k * b + c) b ≡ suc k
 unfolding nearest evenOf
-from-half k c b h e l c<b =
+from-half k c b e l c<b =
     rw (digits-mod k c<b, digits-div k c<b, le-ltb (2 * c) b l)
     (by-test (ltb b (2 * c)) (λ t. rw t refl)
     (λ t. rw t (omega arith)))
@@ -185,19 +191,16 @@ from-half⁺ : (k : ℕ) (c b : ℤ) → pos 0 ⋖ b → suc k % 2 ≡ 0 → b �
 unfolding r
 from-half⁺ k c (negsuc b) h e l u = absurd (h .lt)
 from-half⁺ k (negsuc c) (pos b) h e l u = absurd (omega (arith, ints, mul-parts (pos 2) (negsuc c)))
-from-half⁺ k (pos c) (pos b) h e l u = ap pos (from-half k c b (omega (arith, ints)) e (omega (arith, ints)) (omega (arith, ints)))
+from-half⁺ k (pos c) (pos b) h e l u = ap pos (from-half k c b e (omega (arith, ints)) (omega (arith, ints)))
 
-mirror : (k c b : ℤ) → negℤ k *ℤ b +ℤ c ≡ negℤ (k *ℤ b +ℤ negℤ c)
-mirror k c b = ring (k ∷ c ∷ b ∷ []) (search form depth 20) tt
-
--- an even number takes what is at most half of b away from it, the halves included
+-- and of even numbers from 0 up, on either side
 even⁺ : (k : ℕ) (c b : ℤ) → pos 0 ⋖ b → k % 2 ≡ 0 → negℤ b ⩽ pos 2 *ℤ c → pos 2 *ℤ c ⩽ b → r (pos k *ℤ b +ℤ c) b ≡ pos k
 even⁺ k c b h e l u = go k e (<ℤ-or-≥ c (pos 0))
   where
     go : (k : ℕ) → k % 2 ≡ 0 → (c ⋖ pos 0) ⊎ (pos 0 ⩽ c) → r (pos k *ℤ b +ℤ c) b ≡ pos k
     go k e (inr g) = up-to-half⁺ k c b h e g u
     go zero e (inl g) =
-        ap (λ (z : ℤ). r z b) (mirror (pos 0) c b) ∙ r-neg (pos 0 *ℤ b +ℤ negℤ c) b h
+        r-mirror (pos 0) c b h
         ∙ ap negℤ (up-to-half⁺ 0 (negℤ c) b h e (nlin (c ∷ []) g (search nstmt depth 20) (omega arith)) (nlin (c ∷ b ∷ []) l (search nstmt depth 20) (omega arith)))
     go (suc k) e (inl g) =
         let s : pos (suc k) ≡ pos k +ℤ pos 1 = ap pos (omega arith) in
@@ -205,8 +208,9 @@ even⁺ k c b h e l u = go k e (<ℤ-or-≥ c (pos 0))
         ap (λ (z : ℤ). r (z *ℤ b +ℤ c) b) s ∙ ap (λ (z : ℤ). r z b) next
         ∙ from-half⁺ k (b +ℤ c) b h e (nlin (c ∷ b ∷ []) l (search nstmt depth 20) (omega arith)) (nlin (c ∷ b ∷ []) g (search nstmt depth 20) (omega arith))
 
+-- an even number is the rounding of what is at most half of b away from it, the halves included
 pub r-even : (k c b : ℤ) → pos 0 ⋖ b → natAbs k % 2 ≡ 0 → negℤ b ⩽ pos 2 *ℤ c → pos 2 *ℤ c ⩽ b → r (k *ℤ b +ℤ c) b ≡ k
 r-even (pos k) c b h e l u = even⁺ k c b h e l u
 r-even (negsuc k) c b h e l u =
-    ap (λ (z : ℤ). r z b) (mirror (pos (suc k)) c b) ∙ r-neg (pos (suc k) *ℤ b +ℤ negℤ c) b h
+    r-mirror (negsuc k) c b h
     ∙ ap negℤ (even⁺ (suc k) (negℤ c) b h e (nlin (c ∷ b ∷ []) u (search nstmt depth 20) (omega arith)) (nlin (c ∷ b ∷ []) l (search nstmt depth 20) (omega arith)))

@@ -13,7 +13,7 @@ use Rattle.integers.specs.Monomials.{nlin, nstmt}
 use Rattle.integers.specs.Order.{lt-yes, lt-no, ≤ℤ-antisym, natAbs-negℤ}
 use Rattle.model.specs.Rounding.{r}
 use Rattle.model.specs.Tests.{by-test}
-use Rattle.arithmetic.specs.RoundingLaws.{r-neg, r-quotient, r-even}
+use Rattle.arithmetic.specs.RoundingLaws.{r-mirror, r-quotient, r-even}
 
 -- how many numbers on, with so much left above q and so much missing to the next number: none where
 -- less is left, one where more, and at a half one where q is odd
@@ -65,11 +65,10 @@ r-step q c b h l u =
 -- and with c below 0, by the sign
 pub r-step-down : (q c b : ℤ) → pos 0 ⋖ b → c ⋖ pos 0 → negℤ b ⋖ c → q -ℤ stepOf q (pos 0 -ℤ c) (b +ℤ c) ≡ r (q *ℤ b +ℤ c) b
 r-step-down q c b h l u =
-    let e : q *ℤ b +ℤ c ≡ negℤ (negℤ q *ℤ b +ℤ negℤ c) = ring (q ∷ c ∷ b ∷ []) (search form depth 20) tt in
     let left : pos 0 -ℤ c ≡ negℤ c = ring (c ∷ []) (search form depth 20) tt in
     let missing : b +ℤ c ≡ b -ℤ negℤ c = ring (c ∷ b ∷ []) (search form depth 20) tt in
     let n = r-step (negℤ q) (negℤ c) b h (nlin (c ∷ []) l (search nstmt depth 20) (omega arith)) (nlin (c ∷ b ∷ []) u (search nstmt depth 20) (omega arith)) in
-    rw (left, missing) (turned (stepOf q (negℤ c) (b -ℤ negℤ c)) ∙ ap negℤ (rw natAbs-negℤ at n) ∙ sym (ap (λ (z : ℤ). r z b) e ∙ r-neg (negℤ q *ℤ b +ℤ negℤ c) b h))
+    rw (left, missing) (turned (stepOf q (negℤ c) (b -ℤ negℤ c)) ∙ ap negℤ (rw natAbs-negℤ at n) ∙ sym (r-mirror q c b h))
   where
     turned : (k : ℤ) → q -ℤ k ≡ negℤ (negℤ q +ℤ k)
     turned k = ring (q ∷ k ∷ []) (search form depth 20) tt

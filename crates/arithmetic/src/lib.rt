@@ -225,7 +225,7 @@ fn reached(n: u64, bound: u64) -> u64
     if n < bound { 0 } else { 1 }
 }
 
-// v × x without the lowest digit in base S, divided by S.
+// The quotient of v × x by S², and the first digit below it in base S.
 fn divide_by_square(v: u64, x: u64) -> Quotient
     requires { ⌜ (v ≤ 2 * 10 ^ 14) × (x ≤ 9 * 10 ^ 18) ⌝ }
     ensures { λ s. ⌜ (s .q * 10 ^ 9 + s .rem ≡ v * x / 10 ^ 9) × (s .rem < 10 ^ 9) × (s .q < 10 ^ 18) ⌝ }

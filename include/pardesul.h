@@ -8,8 +8,8 @@
  *
  * Sets. A set has m accident years, i from 1 to m, and cells (i,j) with delays j from 0 to m - i.
  * Amounts are whole currency units. A triangle is 400 numbers, cell (i,j) at PARDESUL_PLACE(i, j).
- * Each share, ultimate, delay, weight, row base and cell is a quotient rounded to the nearest whole
- * number, halves to the even one.
+ * Each share, ultimate, delay, weight, row base, cell and amount due is a quotient rounded to the
+ * nearest whole number, halves to the even one.
  *
  * Files. A file has a record of 16 bytes for each cell of counts and paid, or of counts, paid and
  * incurred, once and in any order: a byte for the kind (0 count, 1 paid, 2 incurred), one for i,
@@ -21,14 +21,20 @@
  * to 10^10 as a signed 64-bit number, least byte first, which is 0 in a report. The cell is (i,j)
  * with j the calendar year less i.
  *
+ * Dates. A date is a year, a month and a day of the Gregorian calendar; any numbers may be handed
+ * in. The forecast years, 1 to 2m - 2, are the calendar years of a forecast: the first one starts
+ * on the valuation date, each later one on the same day a year on, and after a valuation on 29
+ * February those of common years on 28 February.
+ *
  * Answers. A call hands back its refusal number, but for pardesul_respond and pardesul_tally_add:
  * PARDESUL_ACCEPTED, or the number of the first question that got a no. A refused call writes
  * nothing: every output stays as it was.
  *
  * Memory. Pointers are not null, each is to as many places as its declaration says, and the memory
- * lent to one call does not overlap. An empty file, journal or output is a pointer to anything and
- * the length 0. A call keeps nothing for the next one, so calls may run at the same time in several
- * threads. PARDESUL_STACK bytes of stack are enough for any of them. */
+ * lent to one call does not overlap, but for memory that is only read. An empty file, journal or
+ * output is a pointer to anything and the length 0. A call keeps nothing for the next one, so calls
+ * may run at the same time in several threads. PARDESUL_STACK bytes of stack are enough for any of
+ * them. */
 #ifndef PARDESUL_H
 #define PARDESUL_H
 
@@ -40,8 +46,8 @@
 extern "C" {
 #endif
 
-/* The version, 1,000,000 x major + 1,000 x minor + patch: 0.5.0. */
-#define PARDESUL_VERSION 5000
+/* The version, 1,000,000 x major + 1,000 x minor + patch: 0.6.0. */
+#define PARDESUL_VERSION 6000
 
 /* The bytes of stack that are enough for each call, and for any of them: so many a thread has to
  * have free when it makes the call. No theorem says so: the most that a call takes was measured
@@ -55,6 +61,7 @@ extern "C" {
 #define PARDESUL_STACK_FORECAST (15 * 1024)
 #define PARDESUL_STACK_BACK_TEST (19 * 1024)
 #define PARDESUL_STACK_CLOSING_PAGE (29 * 1024)
+#define PARDESUL_STACK_CASH_IN_WINDOW (30 * 1024)
 #define PARDESUL_STACK_REPLAY (12 * 1024)
 #define PARDESUL_STACK_TALLY_ADD (3 * 1024)
 #define PARDESUL_STACK_RESPOND (32 * 1024)
@@ -117,7 +124,7 @@ enum pardesul_inflation {
  * delay j, estimated from them; a row base is the amount that a year's forecast spreads. 13 and 14
  * come under methods 1 and 2 only; 15 is asked of a closing page, in place of 7; 16 to 18 are asked
  * of a journal, after 1: the length first, then transaction by transaction, of each by rising
- * number. */
+ * number; 19 is asked of a window's dates, after all others. */
 enum pardesul_refusal {
   PARDESUL_ACCEPTED = 0,
   /* m is not 2 to 20 */
@@ -158,6 +165,9 @@ enum pardesul_refusal {
   PARDESUL_REFUSED_CLAIM = 17,
   /* a calendar year is below the one before it, or a cell leaves its range */
   PARDESUL_REFUSED_BOOKING = 18,
+  /* a date is impossible, the valuation date is not of the years 1900 to 2199, or the window ends
+   * before it starts or leaves the forecast years */
+  PARDESUL_REFUSED_DATE = 19,
 };
 
 /* What a journal comes to. The members follow one another without a gap, at bytes 0, 4096, 7296 and
@@ -168,6 +178,12 @@ typedef struct pardesul_journal_tally {
   int64_t paid[PARDESUL_CELLS];    /* money paid by cell */
   size_t last;                     /* the last calendar year, 0 where there is no transaction */
 } pardesul_journal_tally;
+
+/* A date, or any numbers given for one. The members follow one another without a gap and are 24
+ * bytes, aligned to 8. */
+typedef struct pardesul_date {
+  uint64_t year, month, day;
+} pardesul_date;
 
 /* An array parameter of at least so many places. C says so with `static`, by which compilers
  * warn of a shorter array; C++ has no such word, and takes the bare number, of which it checks
@@ -249,6 +265,18 @@ uint64_t pardesul_back_test(const uint8_t *file, size_t file_length, size_t m, u
  * pardesul_forecast. Refuses with 1 to 6, 15 and 9 to 14, in this order. */
 uint64_t pardesul_closing_page(const uint8_t *file, size_t file_length, size_t m, uint64_t method,
                                uint64_t basis, uint8_t *page, size_t page_length);
+
+/* Cash by dates: *amount gets what of the forecast, RBNS + IBNR, falls due from start on and before
+ * end. A forecast year's sum falls due evenly over its days. What is due before a date, the years
+ * that are over and the part of the current one that has gone by, is rounded as one number, and the
+ * amount is what is due before end less what is due before start: so windows that adjoin add up,
+ * and a forecast year's window has its sum. The valuation date is of the years 1900 to 2199; start
+ * lies in the forecast years, and end is not before it and at most the day after them. method and
+ * basis are those of pardesul_forecast. Refuses with 1 to 6, 9 to 14 and 19. */
+uint64_t pardesul_cash_in_window(const uint8_t *file, size_t file_length, size_t m, uint64_t method,
+                                 uint64_t basis, const pardesul_date *valuation,
+                                 const pardesul_date *start, const pardesul_date *end,
+                                 int64_t *amount);
 
 /* Replays a journal of journal_length bytes. *tally gets each reported claim's accident year, the
  * reports counted and the payments added up by cell, and the last calendar year; it starts from

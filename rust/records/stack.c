@@ -1,7 +1,7 @@
 /* How much stack each call takes: it runs on a stack that was filled with one byte, and the lowest
  * byte that changed is looked for. The most is taken over sets of 20 years that get each answer of
- * the call, under every method and basis and with every cut, and over journals that do. In the
- * repository's folder,
+ * the call, under every method and basis, with every cut and for windows with and without a day,
+ * and over journals that do. In the repository's folder,
  *
  *     cc -O2 -Wl,-z,now -I include rust/records/stack.c target/staticlib/libc_api.a -o stack
  *     ./stack
@@ -105,6 +105,17 @@ static void closing_page(void) {
   EACH_INPUT EACH_METHOD for (size_t less = 0; less <= 1; less++) {
     answer(pardesul_closing_page(in->file, in->length, m, method, basis, page,
                                  sizeof page - less));
+  }
+}
+
+/* Good dates, and a bad one: the window ends where it starts, and on the day after the forecast
+ * years. */
+static void cash_in_window(void) {
+  static const pardesul_date dates[] = {{2000, 2, 29}, {2038, 2, 28}, {2038, 2, 29}};
+  int64_t amount;
+  EACH_INPUT EACH_METHOD for (size_t end = 0; end <= 2; end++) {
+    answer(pardesul_cash_in_window(in->file, in->length, m, method, basis, dates, dates,
+                                   dates + end, &amount));
   }
 }
 
@@ -262,6 +273,8 @@ int main(void) {
       {"forecast", forecast, PARDESUL_STACK_FORECAST, FROM_TO(0, 7) | FROM_TO(9, 14)},
       {"back_test", back_test, PARDESUL_STACK_BACK_TEST, FROM_TO(0, 6) | FROM_TO(8, 14)},
       {"closing_page", closing_page, PARDESUL_STACK_CLOSING_PAGE, FROM_TO(0, 6) | FROM_TO(9, 15)},
+      {"cash_in_window", cash_in_window, PARDESUL_STACK_CASH_IN_WINDOW,
+       FROM_TO(0, 6) | FROM_TO(9, 14) | 1u << 19},
       {"replay", replay, PARDESUL_STACK_REPLAY, 1u << 0 | 1u << 1 | FROM_TO(16, 18)},
       {"tally_add", tally_add, PARDESUL_STACK_TALLY_ADD, 1u << 0},
       {"respond", respond, PARDESUL_STACK_RESPOND, FROM_TO(0, 6) | FROM_TO(9, 14)},

@@ -5,3 +5,4 @@ pub mod Signed
 pub mod Wide
 pub mod Capped
 pub mod Words
+pub mod Truncated

@@ -4,7 +4,7 @@ ghost use mathlib.Core.Path.{_≡_};
 ghost use mathlib.Core.Bool.{true};
 ghost use Prim.Native.Nat.{_+_, _*_, _/_, _%_, _^_, _<_, _≤_, min};
 ghost use lib.IntN.{pos, natAbs, _*ℤ_, _+ℤ_};
-ghost use Rattle.integers.specs.Parts.{_⩽_, _⋖_};
+ghost use Rattle.integers.specs.Parts.{_⋖_};
 ghost use Rattle.model.specs.Rounding.{S, r};
 ghost use Rattle.arithmetic.specs.Steps.{stepOf};
 ghost use Rattle.arithmetic.specs.Signed.{turned, signed};
@@ -79,6 +79,17 @@ pub fn round_div(a: i64, b: i64) -> i64
     ensures { λ k. ⌜ k ≡ r a b ⌝ }
 {
     round_quotient(a / b, a % b, b)
+}
+
+// The whole number nearest to (whole × n + part × k) / n. The product may pass a word: part's
+// quotient by n is taken first, and what it leaves is small.
+pub fn round_share(whole: i64, part: i64, k: i64, n: i64) -> i64
+    requires { ⌜ (pos 0 ⋖ n) × (natAbs n ≤ 1000) × (natAbs k ≤ natAbs n) ⌝ }
+    requires { ⌜ (natAbs whole ≤ 4 * 10 ^ 18) × (natAbs part ≤ 10 ^ 18) ⌝ }
+    ensures { λ z. ⌜ z ≡ r (whole *ℤ n +ℤ part *ℤ k) n ⌝ }
+{
+    let left = part % n * k;
+    round_quotient(whole + part / n * k + left / n, left % n, n)
 }
 
 // A number without its sign, the least i64 too: one above that has an opposite.

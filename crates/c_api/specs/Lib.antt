@@ -1,2 +1,3 @@
--- What the calls hand back in a form of their own.
+-- What the calls take and hand back in a form of their own.
 pub mod Inflations
+pub mod Dates

@@ -8,3 +8,4 @@ pub mod forecasts;
 pub mod journals;
 pub mod ladder;
 pub mod sets;
+pub mod windows;

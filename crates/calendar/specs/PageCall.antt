@@ -1,6 +1,6 @@
 -- Laws of the closing page of a file: its refusal question by question, and its contract. Assumes
 -- nothing.
-use mathlib.Core.Path.{_≡_, sym, _∙_, ap}
+use mathlib.Core.Path.{_≡_, sym, _∙_}
 use mathlib.Core.List.{List}
 use Prim.Native.Nat.{ℕ, _*_, _≤_, _<_}
 use native.Mathlib.Nat.{zero-add}
@@ -10,7 +10,6 @@ use lib.ListN.{length, take, drop}
 use lib.Seq.{take-at}
 use Rattle.model.specs.Records.{setOf}
 use Rattle.model.specs.Delays.{delaysOf}
-use Rattle.model.specs.Cells.{size}
 use Rattle.model.specs.CellsLaws.{size-most}
 use Rattle.model.specs.Overlay.{overlay}
 use Rattle.model.specs.Questions.{q15, ofForecast}
@@ -26,8 +25,7 @@ use Rattle.chain_ladder.specs.Accepted.{valid-set}
 use Rattle.chain_ladder.specs.Valid.{few}
 use Rattle.forecast.specs.SetForecast.{Answered, setRefusal}
 use Rattle.forecast.specs.FileLaws as FileLaws
-use Rattle.forecast.specs.SmallEntries.{file-small}
-use Rattle.tally.specs.YearSums.{Small}
+use Rattle.forecast.specs.SmallEntries.{file-small, set-number, set-accepted, set-forecast}
 use Rattle.tally.specs.Printable.{Printable, small-printable}
 use Rattle.text.specs.PageLaws.{page-length}
 use Rattle.calendar.specs.Respond.{text-accepted}
@@ -92,21 +90,17 @@ module _ (m : ℕ) (f : List ℕ) (method basis : ℕ) (before : List ℕ) where
   module _ (passed : settingsRefusal m f method basis ≡ 0) (room : 136 * m ≤ length before) {t : TriangleSet} (is : t ≡ setOf m f)
       {n : ℕ} {left lefts out : List ℤ} (made : Answered (setRefusal m t method) m t (delaysOf m t) method basis n left lefts (zeros 1560) out) where
     answered : n ≡ pageRefusal m f method basis (length before)
-    answered = made .refusal ∙ ap (λ (u : TriangleSet). setRefusal m u method) is ∙ sym (by-set m f method basis (length before) passed room)
+    answered = set-number m f method basis passed is made ∙ sym (by-set m f method basis (length before) passed room)
 
     pub set-refused : (n ≡ 0 → ⊥) → Paged n before
     set-refused o = page-refused o (sym answered)
 
     module _ (z : n ≡ 0) where
       accepted : forecastRefusal m f method basis 1560 ≡ 0
-      accepted = page-forecast m f method basis (length before) (sym answered ∙ z)
+      accepted = set-accepted m f method basis passed is made z
 
       is-forecast : out ≡ forecastOutput m f method basis (zeros 1560)
-      unfolding forecastOutput
-      is-forecast = made .output ∙ rw (z, is, accepted)
-
-      pub forecast-small : (2 ≤ m) × (m ≤ 20) × (size m ≤ 1560) × Small m out
-      forecast-small = rw is-forecast (file-small m f method basis (zeros 1560) accepted)
+      is-forecast = set-forecast m f method basis passed is made z
 
       pub forecast-printable : Printable m (tallyOf m out)
       unfolding fileTally

@@ -1,6 +1,6 @@
 -- Every entry of an accepted forecast is at most 2 × 10^15, so that no calendar-year sum leaves 64
 -- bits. Assumes nothing.
-use mathlib.Core.Path.{_≡_}
+use mathlib.Core.Path.{_≡_, sym, _∙_, ap}
 use mathlib.Core.Bool.{Bool, true, false, cond}
 use mathlib.Core.List.{List}
 use Prim.Native.Nat.{ℕ, _+_, _-_, _*_, _/_, _%_, _^_, _≤_, _<_}
@@ -15,17 +15,17 @@ use Rattle.model.specs.Shares.{bList}
 use Rattle.model.specs.Delays.{delaysOf}
 use Rattle.model.specs.RowBases.{rowBase}
 use Rattle.model.specs.Cells.{size, yearOf, delayOf, rbns, ibnr, sList, entry, outputFrom}
-use Rattle.model.specs.CellsLaws.{written}
+use Rattle.model.specs.CellsLaws.{written, size-most}
 use Rattle.model.specs.Questions.{q6}
 use Rattle.model.specs.declared.TriangleSet.{TriangleSet}
-use Rattle.model.specs.Calls.{forecastRefusal, forecastOutput}
-use Rattle.model.specs.CallsLaws.{settings-so}
+use Rattle.model.specs.Calls.{zeros, forecastRefusal, forecastOutput}
+use Rattle.model.specs.CallsLaws.{settingsRefusal, settings-so}
 use Rattle.chain_ladder.specs.Accepted.{valid-set}
 use Rattle.chain_ladder.specs.Valid.{Valid, few, least}
 use Rattle.cells.specs.SmallLaws.{rbns-small, ibnr-small}
 use Rattle.delays.specs.Prepared.{preparedRefusal}
-use Rattle.forecast.specs.SetForecast.{methodRefusal, setRefusal}
-use Rattle.forecast.specs.FileLaws.{passed}
+use Rattle.forecast.specs.SetForecast.{Answered, methodRefusal, setRefusal}
+use Rattle.forecast.specs.FileLaws as FileLaws
 use Rattle.forecast.specs.SetForecastLaws.{set-so, set-asked, set-delays, set-weights, set-shares, set-bases}
 
 module _ (m : ℕ) (s : TriangleSet) (method basis : ℕ) (valid : Valid m s) (six : q6 (s .«has_incurred») method basis ≡ true) (accepted : setRefusal m s method ≡ 0) where
@@ -72,7 +72,26 @@ pub file-small : (m : ℕ) (f : List ℕ) (method basis : ℕ) (before : List �
     → (2 ≤ m) × (m ≤ 20) × (size m ≤ length before) × ((e : ℕ) → e < size m → natAbs (at (forecastOutput m f method basis before) e) ≤ 2 * 10 ^ 15)
 unfolding forecastOutput setOf
 file-small m f method basis before z =
-    let p = passed m f method basis before z in
+    let p = FileLaws.passed m f method basis before z in
     let q = settings-so m f method basis (p .0) in
     let v = valid-set m f (q .0) in
     (least m (setOf m f) v, few m (setOf m f) v, p .1, rw z (output-small m (setOf m f) method basis v (q .1) (p .2) before))
+
+-- of the forecast of a file's set t into zeros, with room for every m, which is the file's
+module _ (m : ℕ) (f : List ℕ) (method basis : ℕ) (passed : settingsRefusal m f method basis ≡ 0) {t : TriangleSet} (is : t ≡ setOf m f)
+    {n : ℕ} {left lefts out : List ℤ} (made : Answered (setRefusal m t method) m t (delaysOf m t) method basis n left lefts (zeros 1560) out) where
+  pub set-number : n ≡ setRefusal m (setOf m f) method
+  set-number = made .refusal ∙ ap (λ (u : TriangleSet). setRefusal m u method) is
+
+  module _ (z : n ≡ 0) where
+    pub set-accepted : forecastRefusal m f method basis 1560 ≡ 0
+    set-accepted =
+        let v = valid-set m f (settings-so m f method basis passed .0) in
+        FileLaws.accepted m f method basis (zeros 1560) passed (size-most m (few m (setOf m f) v)) (sym set-number ∙ z)
+
+    pub set-forecast : out ≡ forecastOutput m f method basis (zeros 1560)
+    unfolding forecastOutput
+    set-forecast = made .output ∙ rw (z, is, set-accepted)
+
+    pub set-small : (2 ≤ m) × (m ≤ 20) × (size m ≤ 1560) × ((e : ℕ) → e < size m → natAbs (at out e) ≤ 2 * 10 ^ 15)
+    set-small = rw set-forecast (file-small m f method basis (zeros 1560) set-accepted)

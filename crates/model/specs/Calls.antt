@@ -18,8 +18,9 @@ use Rattle.model.specs.PaidReserve.{NearReserves}
 use Rattle.model.specs.Calendar.{tallyOf, tallyText, refusalText, firstLine, refusalOf}
 use Rattle.model.specs.Page.{pageText}
 use Rattle.model.specs.ClaimCosts.{claimCosts, noClaimCosts}
+use Rattle.model.specs.Cash.{cashIn}
 use Rattle.model.specs.BackTest.{cutTo, gap, cellNumber, cellwise, yearwise, overall}
-use Rattle.model.specs.Questions.{Question, firstNo, ofFile, ofShares, ofDelays, ofForecast, q1, q5Writer, q6, q7, q7Writer, q8, q15}
+use Rattle.model.specs.Questions.{Question, firstNo, ofFile, ofShares, ofDelays, ofForecast, q1, q5Writer, q6, q7, q7Writer, q8, q15, q19}
 use Rattle.model.specs.declared.TriangleSet.{TriangleSet}
 use Rattle.model.specs.declared.ReadAnswer.{ReadAnswer}
 use Rattle.model.specs.declared.SharesAnswer.{SharesAnswer}
@@ -30,6 +31,8 @@ use Rattle.model.specs.declared.ClaimCostsAnswer.{ClaimCostsAnswer}
 use Rattle.model.specs.declared.BackTestAnswer.{BackTestAnswer}
 use Rattle.model.specs.declared.JournalTally.{JournalTally}
 use Rattle.model.specs.declared.Tally.{Tally}
+use Rattle.model.specs.declared.Date.{Date}
+use Rattle.model.specs.declared.CashAnswer.{CashAnswer}
 use Rattle.model.specs.declared.Transaction.{Transaction}
 use Rattle.model.specs.declared.FirstLine.{FirstLine}
 use Rattle.model.specs.declared.FirstLine.the-variants.{Asked, Refused}
@@ -253,3 +256,22 @@ pub record Replayed (m : ℕ) (f : List ℕ) (before after : JournalTally) (r : 
   pub tally : after ≡ replayTally m f before
   pub counted : r ≡ 0 → after .counts ≡ triangle m (reports f)
   pub added : r ≡ 0 → after .paid ≡ triangle m (payments f)
+
+-- ---- cash by dates (02, Job 5): questions 1 to 6, 9 to 14, and 19
+
+unfoldable pub cashRefusal : ℕ → List ℕ → ℕ → ℕ → Date → Date → Date → ℕ
+cashRefusal m f method basis v a b =
+    let s = setOf m f in
+    callRefusal m f ((6, q6 (hasIncurred m f) method basis) ∷ []) (ofForecast m s (delaysOf m s) method ++ ((19, q19 m v a b) ∷ []))
+
+abbrev pub acceptedCash : ℤ → CashAnswer
+acceptedCash z = record { refusal = 0; amount = z }
+
+abbrev pub refusedCash : ℕ → CashAnswer
+refusedCash n = record { refusal = n; amount = pos 0 }
+
+-- the window from a to b, by the valuation date v: of the very tally whose text `closing` prints
+unfoldable pub cashAnswer : ℕ → List ℕ → ℕ → ℕ → Date → Date → Date → CashAnswer
+cashAnswer m f method basis v a b =
+    let n = cashRefusal m f method basis v a b in
+    ifAccepted n (acceptedCash (cashIn (2 * m - 2) (fileTally m f method basis) v a b)) (refusedCash n)

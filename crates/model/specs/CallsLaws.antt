@@ -85,42 +85,51 @@ module _ (m : ℕ) (f : List ℕ) (method basis : ℕ) where
       let h : EachYes ((6, six) ∷ []) = each-yes ((6, six) ∷ []) refl (a .1) in
       (a .0, h .0)
 
-  -- one question more of the call's own, number k + 1, and then those of the set
-  module _ (k : ℕ) (x : Bool) (ofSet : List Question) where
-    abbrev refusal : ℕ
-    refusal = callRefusal m f ((6, six) ∷ (suc k, x) ∷ []) ofSet
-
-    abbrev rest : List Question
-    rest = (suc k, x) ∷ ofSet
-
-    staged : refusal ≡ firstNo ((ofFile m f ++ ((6, six) ∷ [])) ++ rest)
-    unfolding callRefusal
+  -- they come first, before any others
+  module _ (rest : List Question) where
+    staged : firstNo (ofFile m f ++ ((6, six) ∷ rest)) ≡ firstNo ((ofFile m f ++ ((6, six) ∷ [])) ++ rest)
     staged = ap firstNo (sym (append-assoc (ofFile m f) ((6, six) ∷ []) rest))
 
     all-numbered : numbered (ofFile m f ++ ((6, six) ∷ [])) ≡ true
     unfolding numbered ofFile ofRecords
     all-numbered = refl
 
-    pub by-settings : (settings ≡ 0 → ⊥) → refusal ≡ settings
+    pub first-settings : (settings ≡ 0 → ⊥) → firstNo (ofFile m f ++ ((6, six) ∷ rest)) ≡ settings
     unfolding settingsRefusal callRefusal
-    by-settings o = staged ∙ stage-no (ofFile m f ++ ((6, six) ∷ [])) rest all-numbered o
+    first-settings o = staged ∙ stage-no (ofFile m f ++ ((6, six) ∷ [])) rest all-numbered o
 
-    after-settings : settings ≡ 0 → refusal ≡ firstNo rest
+    pub after-settings : settings ≡ 0 → firstNo (ofFile m f ++ ((6, six) ∷ rest)) ≡ firstNo rest
     unfolding settingsRefusal callRefusal
     after-settings z = staged ∙ stage-yes (ofFile m f ++ ((6, six) ∷ [])) rest all-numbered z
 
+    pub both-so : firstNo (ofFile m f ++ ((6, six) ∷ rest)) ≡ 0 → (settings ≡ 0) × (firstNo rest ≡ 0)
+    unfolding settingsRefusal callRefusal
+    both-so z = stages-so (ofFile m f ++ ((6, six) ∷ [])) rest all-numbered (sym staged ∙ z)
+
+  -- one question more of the call's own, number k + 1, and then those of the set
+  module _ (k : ℕ) (x : Bool) (ofSet : List Question) where
+    abbrev refusal : ℕ
+    refusal = callRefusal m f ((6, six) ∷ (suc k, x) ∷ []) ofSet
+
+    abbrev own : List Question
+    own = (suc k, x) ∷ ofSet
+
+    pub by-settings : (settings ≡ 0 → ⊥) → refusal ≡ settings
+    unfolding callRefusal
+    by-settings = first-settings own
+
     pub no-own : settings ≡ 0 → x ≡ false → refusal ≡ suc k
-    unfolding firstNo
-    no-own z e = after-settings z ∙ rw e
+    unfolding callRefusal firstNo
+    no-own z e = after-settings own z ∙ rw e
 
     pub to-set : settings ≡ 0 → x ≡ true → refusal ≡ firstNo ofSet
-    unfolding firstNo
-    to-set z e = after-settings z ∙ rw e
+    unfolding callRefusal firstNo
+    to-set z e = after-settings own z ∙ rw e
 
     pub call-so : refusal ≡ 0 → (settings ≡ 0) × (x ≡ true) × (firstNo ofSet ≡ 0)
-    unfolding settingsRefusal callRefusal firstNo
+    unfolding callRefusal firstNo
     call-so z =
-        let a = stages-so (ofFile m f ++ ((6, six) ∷ [])) rest all-numbered (sym staged ∙ z) in
+        let a = both-so own z in
         by-test x (λ e. (a .0, e, rw e at (a .1))) (λ e. absurd (let n : suc k ≡ 0 = rw e at (a .1) in omega arith))
 
 -- ---- the forecast

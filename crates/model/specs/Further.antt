@@ -5,39 +5,27 @@ use mathlib.Core.Path.{_≡_, refl}
 use mathlib.Core.Bool.{Bool, true, false, _&&_}
 use mathlib.Core.List.{List, [], _∷_, _++_}
 use lib.Dec.{T, eqb}
-use lib.IntN.{ℤ, pos, negsuc, negℤ, _*ℤ_}
+use lib.IntN.{ℤ, pos, negℤ, _*ℤ_}
 use lib.ListN.{take, replicate, set}
-use lib.Ieee.{fin, div, ofInt}
+use lib.Ieee.{div, ofInt}
 use Rattle.model.specs.Lists.{chained}
-use Rattle.model.specs.Records.{givenSet, setOf}
+use Rattle.model.specs.Records.{setOf}
 use Rattle.model.specs.Delays.{delaysOf}
 use Rattle.model.specs.RowBases.{leftovers}
 use Rattle.model.specs.Cells.{outputFrom}
 use Rattle.model.specs.PaidReserve.{Fraction, GDown, G, H, reserve, bound}
-use Rattle.model.specs.ClaimCosts.{quotient, meanCost, factor, inflation, claimCosts, noClaimCosts, yearInflation}
+use Rattle.model.specs.ClaimCosts.{quotient, meanCost, factor, inflation, claimCosts, noClaimCosts}
 use Rattle.model.specs.Questions.{firstNo, ofForecast, q5Writer, q7Writer}
 use Rattle.model.specs.SetFile.{word, recordOf, ofKind, fileOf}
-use Rattle.model.specs.Calls.{acceptedRead, readAnswer, writeRefusal, writeOutput, forecastAnswer, acceptedClaimCosts, claimCostsAnswer, closingText}
-use Rattle.model.specs.Examples.{rowOf, two, same, opened, asked}
+use Rattle.model.specs.Calls.{readAnswer, writeRefusal, writeOutput, forecastAnswer, claimCostsAnswer, closingText}
+use Rattle.model.specs.Examples.{two, same, opened, asked}
 use Rattle.model.specs.declared.TriangleSet.{TriangleSet}
-use Rattle.model.specs.declared.Inflation.the-variants.{BaseYear, NoPaymentsYet, Ratio}
 
 -- ---- the sets
-
--- -n as the 64 bits of a value
-abbrev pub minus : ℕ → ℕ
-minus n = 2 ^ 64 - n
 
 -- the bytes of set K
 unfoldable pub K : List ℕ
 K = two 0 80 20 90 ++ two 1 600 400 660 ++ two 2 900 100 1080
-
--- m = 3: negative incurred cells, and row bases below zero under IDCL
-unfoldable pub negative : List ℕ
-negative =
-    rowOf 0 1 0 (80 ∷ 20 ∷ 10 ∷ []) ++ rowOf 0 2 0 (90 ∷ 25 ∷ []) ++ rowOf 0 3 0 (100 ∷ [])
-    ++ rowOf 1 1 0 (600 ∷ 400 ∷ 50 ∷ []) ++ rowOf 1 2 0 (660 ∷ 430 ∷ []) ++ rowOf 1 3 0 (700 ∷ [])
-    ++ rowOf 2 1 0 (1500 ∷ minus 300 ∷ minus 100 ∷ []) ++ rowOf 2 2 0 (1500 ∷ minus 600 ∷ []) ++ rowOf 2 3 0 (800 ∷ [])
 
 -- -n
 abbrev pub less : ℕ → ℤ
@@ -57,7 +45,7 @@ ofRows c d e = record { «has_incurred» = true; counts = rowsOf c; paid = rowsO
 abbrev counts3 : List (List ℤ)
 counts3 = (pos 80 ∷ pos 20 ∷ pos 10 ∷ []) ∷ (pos 90 ∷ pos 25 ∷ []) ∷ (pos 100 ∷ []) ∷ []
 
--- the set of `negative` (`rewritten` of FurtherCalls holds it to that file)
+-- negative incurred cells, and row bases below zero under IDCL
 unfoldable pub negativeSet : TriangleSet
 negativeSet =
     ofRows counts3 ((pos 600 ∷ pos 400 ∷ pos 50 ∷ []) ∷ (pos 660 ∷ pos 430 ∷ []) ∷ (pos 700 ∷ []) ∷ [])
@@ -176,7 +164,7 @@ refusals =
 
 unfoldable pub opened-further : ℕ
 unfolding
-    opened K negative rowsOf negativeSet unpaid settled few four sameList sameFraction allTrue refused leftOver3 output3 refusedSet forecasts refusals
+    opened K rowsOf negativeSet unpaid settled few four sameList sameFraction allTrue refused leftOver3 output3 refusedSet forecasts refusals
     GDown G H reserve bound
     quotient meanCost factor inflation claimCosts noClaimCosts claimCostsAnswer div ofInt
     readAnswer writeRefusal writeOutput q5Writer q7Writer chained word ofKind fileOf
@@ -190,61 +178,13 @@ pub further-refusals : T (allTrue refusals)
 unfolding opened-further
 further-refusals = tt
 
--- the claim costs of K: mu is 10, f(1) the number nearest 1000/600, and year 2's inflation
--- (1100/112)/10, each division rounded; N(2) is 112 since halves go to even (02, Job 4)
-pub claim-costs : claimCostsAnswer 2 K ≡ acceptedClaimCosts (record {
-  mu = fin false 5 (pos 1);
-  factors = fin false 7505999378950827 (negsuc 51) ∷ replicate 19 (fin false 0 (pos 0));
-  inflations = yearInflation BaseYear ∷ yearInflation (Ratio (fin false 8846356410906331 (negsuc 52))) ∷ replicate 18 (yearInflation NoPaymentsYet);
-})
-unfolding opened-further
-claim-costs = refl
-
--- the reader hands back what the writer was given: numbers past the cells aren't read
-pub given : readAnswer 2 K ≡ acceptedRead (givenSet 2 true (pos 80 ∷ pos 20 ∷ replicate 18 (pos 3) ++ pos 90 ∷ []) (pos 600 ∷ pos 400 ∷ replicate 18 (pos 3) ++ pos 660 ∷ []) (pos 900 ∷ pos 100 ∷ replicate 18 (pos 3) ++ pos 1080 ∷ []))
-unfolding opened-further
-given = refl
-
 -- ---- what `closing` prints for a refusal
 
 -- the text "refused ", the digits d and a newline
-abbrev told : List ℕ → List ℕ
+abbrev pub told : List ℕ → List ℕ
 told d = (114 ∷ 101 ∷ 102 ∷ 117 ∷ 115 ∷ 101 ∷ 100 ∷ 32 ∷ []) ++ d ++ (10 ∷ [])
-
--- a first line with one digit for each number, and a file
-abbrev input : ℕ → ℕ → ℕ → List ℕ → List ℕ
-input m method basis f = (48 + m) ∷ 32 ∷ (48 + method) ∷ 32 ∷ (48 + basis) ∷ 10 ∷ f
 
 -- five digits in the first run
 pub five-digits : closingText (48 ∷ 48 ∷ 48 ∷ 48 ∷ asked) ≡ told (49 ∷ [])
 unfolding opened-further
 five-digits = refl
-
--- no input at all, "2 0 1" without its newline, and "2  0 1" with two spaces
-pub no-first-line :
-    (closingText [] ≡ told (49 ∷ [])) × (closingText (50 ∷ 32 ∷ 48 ∷ 32 ∷ 49 ∷ []) ≡ told (49 ∷ []))
-    × (closingText (50 ∷ 32 ∷ 32 ∷ 48 ∷ 32 ∷ 49 ∷ 10 ∷ K) ≡ told (49 ∷ []))
-unfolding opened-further
-no-first-line = (refl, refl, refl)
-
--- m = 21, and m = 1
-pub wrong-size : (closingText (50 ∷ 49 ∷ 32 ∷ 48 ∷ 32 ∷ 49 ∷ 10 ∷ K) ≡ told (49 ∷ [])) × (closingText (input 1 0 1 K) ≡ told (49 ∷ []))
-unfolding opened-further
-wrong-size = (refl, refl)
-
--- one byte too many, and K as a set of m = 3
-pub wrong-length : (closingText (asked ++ (0 ∷ [])) ≡ told (50 ∷ [])) × (closingText (input 3 0 1 K) ≡ told (50 ∷ []))
-unfolding opened-further
-wrong-length = (refl, refl)
-
--- method 3, and basis 2
-pub wrong-method : (closingText (input 2 3 1 K) ≡ told (54 ∷ [])) × (closingText (input 2 0 2 K) ≡ told (54 ∷ []))
-unfolding opened-further
-wrong-method = (refl, refl)
-
--- a row without counts is 9; a delay of -8,016,000,000 is 12
-pub refused-sets :
-    (closingText (input 2 0 1 (two 0 80 20 0 ++ two 1 600 400 660)) ≡ told (57 ∷ []))
-    × (closingText (input 2 0 1 (two 0 25 75 50 ++ two 1 751 249 750)) ≡ told (49 ∷ 50 ∷ []))
-unfolding opened-further
-refused-sets = (refl, refl)

@@ -1,17 +1,16 @@
 -- Examples of the claims journal (02, Job 3), of our own.
 use Prim.Native.Nat.{ℕ, _+_, _-_, _^_}
 use mathlib.Core.Path.{_≡_, refl}
-use mathlib.Core.Bool.{true, false}
 use mathlib.Core.List.{List, [], _∷_, _++_}
 use lib.IntN.{ℤ, pos}
-use lib.ListN.{getD, replicate}
+use lib.ListN.{replicate}
 use Rattle.integers.specs.Sums.{sum}
 use Rattle.model.specs.Lists.{tabulate, chained, total, count}
 use Rattle.model.specs.Records.{triangle, leastFirst, signed, valueAt, inRange}
 use Rattle.model.specs.Questions.{firstNo, q1}
 use Rattle.model.specs.SetFile.{bytes}
 use Rattle.model.specs.Journal.{transactionAt, q16, q17, q18, ofBooking, ofTransaction, booked, noTally, tallyAfter, q16Length, ofTransactions, isEntry, reports, payments}
-use Rattle.model.specs.Calls.{ofStep, replayRefusal, replayTally}
+use Rattle.model.specs.Calls.{replayRefusal, replayTally}
 use Rattle.model.specs.declared.JournalTally.{JournalTally}
 
 -- the bytes of a transaction, s being its unused byte and x the word of its amount
@@ -38,24 +37,12 @@ rows a b c d e f = (pos a ∷ pos b ∷ pos c ∷ []) ++ replicate 17 (pos 0) ++
 unfoldable pub handed : JournalTally
 handed = record { claims = replicate 4096 3; counts = replicate 400 (pos 2); paid = replicate 400 (pos 1); last = 3 }
 
--- one with cells at the end of the signed 64-bit numbers
-unfoldable pub overfull : JournalTally
-overfull = record { claims = replicate 4096 3; counts = replicate 400 (pos 0); paid = replicate 400 (pos (2 ^ 63 - 1)); last = 3 }
-
 unfoldable pub opened-journal : ℕ
 unfolding
     sum tabulate chained total count triangle leastFirst signed valueAt inRange firstNo q1 bytes
     transactionAt q16 q17 q18 ofBooking ofTransaction booked noTally tallyAfter q16Length ofTransactions isEntry reports payments
     replayRefusal replayTally entry report pay journal rows handed
 opened-journal = 0
-
--- the tally of the journal, from zeros: claims 7 and 4095 are of year 1, 256 of year 2
-pub replayed :
-    (replayRefusal 3 journal ≡ 0) × (replayTally 3 journal handed .counts ≡ rows 1 1 0 1 0 0) × (replayTally 3 journal handed .paid ≡ rows 0 500 100 0 9 0)
-    × (replayTally 3 journal handed .last ≡ 3) × (getD (replayTally 3 journal handed .claims) 7 0 ≡ 1)
-    × (getD (replayTally 3 journal handed .claims) 256 0 ≡ 2) × (getD (replayTally 3 journal handed .claims) 8 0 ≡ 0)
-unfolding opened-journal
-replayed = (refl, refl, refl, refl, refl, refl, refl)
 
 -- its cells over the whole list
 pub by-cell :
@@ -69,16 +56,6 @@ pub cleared : (replayTally 2 [] handed .last ≡ 0) × (replayTally 2 [] handed 
 unfolding opened-journal
 cleared = (refl, refl, refl)
 
--- 1 comes before 16 of the length, which comes before the transactions
-pub frames : (replayRefusal 21 (0 ∷ []) ≡ 1) × (replayRefusal 2 (0 ∷ []) ≡ 16) × (replayRefusal 2 (pay 7 1 1 5 ++ (0 ∷ [])) ≡ 16)
-unfolding opened-journal
-frames = (refl, refl, refl)
-
--- 16: 4096 transactions and one more
-pub most : (q16Length (replicate 65536 0) ≡ true) × (q16Length (replicate 65552 0) ≡ false)
-unfolding opened-journal
-most = (refl, refl)
-
 -- 16: each field's ends
 pub fields :
     (replayRefusal 2 (report 4095 2 2) ≡ 0) × (replayRefusal 2 (report 4096 2 2) ≡ 16) × (replayRefusal 2 (entry 7 2 1 1 0 0) ≡ 16)
@@ -88,27 +65,6 @@ pub fields :
     × (replayRefusal 2 (report 7 1 1 ++ pay 7 1 1 (2 ^ 64 - 1)) ≡ 16)
 unfolding opened-journal
 fields = (refl, refl, refl, refl, refl, refl, refl, refl, refl, refl, refl, refl)
-
--- 17: reported twice, also under another year; paid unreported, 0 too; paid under another year
-pub claims :
-    (replayRefusal 2 (report 7 1 1 ++ report 7 1 2) ≡ 17) × (replayRefusal 2 (report 7 1 1 ++ report 7 2 2) ≡ 17)
-    × (replayRefusal 2 (report 7 1 1 ++ pay 8 1 1 0) ≡ 17) × (replayRefusal 2 (report 7 1 1 ++ pay 7 2 2 5) ≡ 17)
-unfolding opened-journal
-claims = (refl, refl, refl, refl)
-
--- 18: a calendar year below the last; a cell that is full, and one unit more
-pub bookings :
-    (replayRefusal 2 (report 7 1 2 ++ report 8 1 1) ≡ 18) × (replayRefusal 2 (report 7 1 1 ++ pay 7 1 1 (10 ^ 10) ++ pay 7 1 1 0) ≡ 0)
-    × (replayRefusal 2 (report 7 1 1 ++ pay 7 1 1 (10 ^ 10) ++ pay 7 1 1 1) ≡ 18)
-unfolding opened-journal
-bookings = (refl, refl, refl)
-
--- one transaction: 1 before 16, and a tally that no journal comes to, whose cells are full already
-pub steps :
-    (firstNo (ofStep 21 handed (transactionAt (report 4096 1 1) 0)) ≡ 1) × (firstNo (ofStep 3 handed (transactionAt (pay 7 3 3 1) 0)) ≡ 0)
-    × (firstNo (ofStep 3 overfull (transactionAt (pay 7 3 3 1) 0)) ≡ 18)
-unfolding opened-journal overfull
-steps = (refl, refl, refl)
 
 -- the first bad transaction rules, and in it the lowest number
 pub order :

@@ -1,5 +1,5 @@
--- The definitions of document 01, a file for each of its sections, in its order; Page, SetFile and
--- Journal are of document 02.
+-- The definitions of document 01, a file for each of its sections, in its order; Page, Dates, Cash,
+-- SetFile and Journal are of document 02.
 pub mod Lists
 pub mod ListsLaws
 pub mod Overlay
@@ -18,6 +18,8 @@ pub mod CalendarLaws
 pub mod Page
 pub mod ClaimCosts
 pub mod BackTest
+pub mod Dates
+pub mod Cash
 pub mod Questions
 pub mod QuestionsLaws
 pub mod SetFile

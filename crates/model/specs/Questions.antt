@@ -11,7 +11,10 @@ use Rattle.model.specs.Records.{inside, cell, kindAt, yearAt, delayAt, s
 use Rattle.model.specs.Shares.{latest, A, B, g}
 use Rattle.model.specs.RowBases.{rowBase}
 use Rattle.model.specs.Cells.{size}
+use Rattle.model.specs.Dates.{isDate, dayNumber}
+use Rattle.model.specs.Cash.{yearStart}
 use Rattle.model.specs.declared.TriangleSet.{TriangleSet}
+use Rattle.model.specs.declared.Date.{Date}
 
 -- lo <= x <= hi
 abbrev pub within : ℤ → ℤ → ℤ → Bool
@@ -81,6 +84,21 @@ q15 m room = leb (136 * m) room
 -- 8, of a back-test: the cut c is from 1 to m - 2
 unfoldable pub q8 : ℕ → ℕ → Bool
 q8 m c = leb 1 c && leb (c + 2) m
+
+-- 19 (02, Job 5), of the valuation date: there is such a date, of the years 1900 to 2199
+unfoldable pub isValuation : Date → Bool
+isValuation v = isDate v && leb 1900 (v .year) && leb (v .year) 2199
+
+-- of a window from a to b: a is not before the valuation date v, nor b before a; a lies in one of
+-- the 2m - 2 forecast years, and b at most at the day after them
+unfoldable pub inYears : ℕ → Date → Date → Date → Bool
+inYears m v a b =
+    let end = yearStart v (2 * m - 2) in
+    leb (dayNumber v) (dayNumber a) && leb (dayNumber a) (dayNumber b) && ltb (dayNumber a) end && leb (dayNumber b) end
+
+-- 19, of all three dates
+unfoldable pub q19 : ℕ → Date → Date → Date → Bool
+q19 m v a b = isValuation v && isDate a && isDate b && inYears m v a b
 
 -- ---- of triangles
 

@@ -12,8 +12,9 @@ use Rattle.integers.specs.Parts.{_⩽_, _⋖_}
 use Rattle.integers.specs.Order.{le-yes, leZ-true, leZ-false}
 use Rattle.model.specs.Lists.{every}
 use Rattle.model.specs.ListsLaws.{every-at, every-all, and-left, and-right}
-use Rattle.model.specs.Questions.{Question, within, firstNo, eachCell}
+use Rattle.model.specs.Questions.{Question, within, usesIncurred, firstNo, eachCell, ofShares, ofDelays, ofMethod, ofForecast}
 use Rattle.model.specs.Tests.{by-test}
+use Rattle.model.specs.declared.TriangleSet.{TriangleSet}
 
 -- ---- lists of questions
 
@@ -61,6 +62,11 @@ module _ (xs ys : List Question) (h : numbered xs ≡ true) where
   stages-so e =
       by-test (eqb (firstNo xs) 0) (λ t. let z = eqb-true (firstNo xs) 0 t in (z, sym (stage-yes z) ∙ e))
       (λ t. let o = eqb-false (firstNo xs) 0 t in absurd (o (sym (stage-no o) ∙ e)))
+
+-- those of a set that is to be forecast
+pub forecast-numbered : (m : ℕ) (s : TriangleSet) (p : List ℤ) (method : ℕ) → numbered (ofForecast m s p method) ≡ true
+unfolding numbered ofForecast ofShares ofDelays ofMethod
+forecast-numbered m s p method = by-test (usesIncurred method) (λ t. rw t) (λ t. rw t)
 
 -- ---- a number between two bounds
 

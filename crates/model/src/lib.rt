@@ -146,6 +146,19 @@ pub struct Transaction {
     pub amount: i64,
 }
 
+// A date of the Gregorian calendar (02, Job 5), or what is given for one: any three numbers.
+pub struct Date {
+    pub year: u64,
+    pub month: u64,
+    pub day: u64,
+}
+
+// What falls due in a window of dates (02, Job 5).
+pub struct CashAnswer {
+    pub refusal: u64,
+    pub amount: i64,
+}
+
 // A run of digits and the byte after it: the number and the place after that byte.
 pub enum Run {
     Number(u64, usize),

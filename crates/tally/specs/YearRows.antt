@@ -8,13 +8,13 @@ use native.Mathlib.Nat.{zero-mul, mul-assoc, mul-comm, mul-suc, suc-mul, add-mul
 use native.Mathlib.Omega.{arith}
 use lib.Arith.{digits-div, digits-mod, digits-lt}
 use lib.Dec.{eqb, ltb}
-use lib.IntN.{ℤ, pos, _+ℤ_, +ℤ-idl}
-use lib.ListN.{length}
-use borrow.Author.Tests.{eq-eqb, ne-eqb, ltb-false, le-leb}
+use lib.IntN.{ℤ, pos, natAbs, _+ℤ_, +ℤ-idl}
+use lib.ListN.{length, List·getD-eq-default}
+use borrow.Author.Tests.{eq-eqb, ne-eqb, ltb-true, ltb-false, le-leb}
 use Rattle.integers.specs.Sums.{sum, sum-cong, sum-nothing, sum-split, sum-zero, sum-suc, sum-ends, sum-natAbs}
 use Rattle.model.specs.Tests.{by-test}
 use Rattle.model.specs.Lists.{tabulate, listed, at}
-use Rattle.model.specs.ListsLaws.{tabulate-ext, getD-listed-past, listed-none, listed-next}
+use Rattle.model.specs.ListsLaws.{length-tabulate, getD-tabulate, tabulate-ext, getD-listed-past, listed-none, listed-next}
 use Rattle.model.specs.Cells.{size}
 use Rattle.model.specs.Calendar.{fits64, calendarYear, emptyTally, tallyAdd, tallyOf}
 use Rattle.model.specs.declared.Tally.{Tally}
@@ -25,6 +25,13 @@ use Rattle.tally.specs.YearSums.{cells, entryAt, yearSum, tallyIn, Small
 pub record Spaced (a d n : ℕ) (xs : List ℤ) : Type 0 where
   pub places : (k : ℕ) → k < n → a + d * k < length xs
   pub fits : (k : ℕ) → k ≤ n → fits64 (sum k (λ i. at xs (a + d * i))) ≡ true
+
+-- entries one place apart
+pub total-is : (n : ℕ) (xs : List ℤ) → sum n (λ k. at xs (0 + 1 * k)) ≡ sum n (at xs)
+total-is n xs = sum-cong n (λ k l. let e : 0 + 1 * k ≡ k = omega arith in ap (at xs) e)
+
+pub total-spaced : (n : ℕ) (xs : List ℤ) → n ≤ length xs → ((k : ℕ) → k ≤ n → fits64 (sum k (at xs)) ≡ true) → Spaced 0 1 n xs
+total-spaced n xs h f = record { places = λ k l. omega arith; fits = λ k l. rw (total-is k xs) (f k l) }
 
 -- the sum of calendar year k + 1, of the RBNS entries (kind 0) or the IBNR entries (kind 1)
 abbrev pub yearly : ℕ → ℕ → List ℤ → ℕ → ℤ
@@ -119,6 +126,37 @@ module _ (m : ℕ) (out : List ℤ) (k kind : ℕ) (h : k < 2 * m - 2) where
         places = λ i u. rw (place-is i (omega arith)) (omega (arith, inside (row + i) (omega arith) (omega arith), mul-assoc 2 m (2 * m - 1)));
         fits = λ n u. below-fits _ (omega (arith, sum-natAbs n (2 * 10 ^ 15) (λ i. at out (place i)) (λ i v. rw (place-is i (omega arith)) (small-entry m out small kind l (cellIn m k (row + i)) (inside (row + i) (omega arith) (omega arith))))));
       }
+
+-- ---- how large a year gets
+
+-- one cell in each row at most, each at most 2 × 10^15
+year-most : (m : ℕ) (out : List ℤ) (k kind : ℕ) → m ≤ 20 → kind ≤ 1 → Small m out → natAbs (yearly m kind out k) ≤ 4 * 10 ^ 16
+year-most m out k kind few l small =
+    by-test (ltb k (2 * m - 2))
+    (λ e.
+    let h = ltb-true k (2 * m - 2) e in
+    let a = k + 2 - m in
+    let n : m - a ≤ 20 = omega arith in
+    rw (by-rows m (entryAt kind out) k h)
+    (omega (
+      arith,
+      sum-natAbs (m - a) (2 * 10 ^ 15) (λ i. entryAt kind out (cellIn m k (a + i))) (λ i u. small-entry m out small kind l (cellIn m k (a + i)) (inside m out k kind h (a + i) (omega arith) (omega arith))),
+    )))
+    (λ e. rw (past m (entryAt kind out) k (ltb-false k (2 * m - 2) e)) (omega arith))
+
+-- every number of a list of years is at most that
+abbrev pub Modest : List ℤ → Type 0
+Modest xs = (k : ℕ) → natAbs (at xs k) ≤ 4 * 10 ^ 16
+
+years-modest : (f : ℕ → ℤ) → ((k : ℕ) → natAbs (f k) ≤ 4 * 10 ^ 16) → Modest (tabulate 38 f)
+years-modest f h k =
+    by-test (ltb k 38) (λ e. rw (getD-tabulate 38 f k (pos 0) (ltb-true k 38 e)) (h k))
+    (λ e. rw (List·getD-eq-default (tabulate 38 f) (pos 0) (let u : length (tabulate 38 f) ≤ k = omega (arith, length-tabulate 38 f, ltb-false k 38 e) in u)) (omega arith))
+
+pub tally-modest : (m : ℕ) (out : List ℤ) → m ≤ 20 → Small m out → Modest (tallyOf m out .rbns) × Modest (tallyOf m out .ibnr)
+tally-modest m out few small =
+    rw (none-lost m out few small)
+    (years-modest (yearly m 0 out) (λ k. year-most m out k 0 few (omega arith) small), years-modest (yearly m 1 out) (λ k. year-most m out k 1 few (omega arith) small))
 
 -- ---- the tally by years
 

@@ -10,13 +10,12 @@ use native.Mathlib.Numerals.{add-one}
 use native.Mathlib.Omega.{arith}
 use lib.IntN.{ℤ, _+ℤ_}
 use lib.ListN.{length, length-append}
-use Rattle.integers.specs.Sums.{sum, sum-cong}
+use Rattle.integers.specs.Sums.{sum}
 use Rattle.model.specs.Lists.{at}
 use Rattle.model.specs.Calendar.{fits64, digits, amount, line, lines, allLines, tallyText, refusalText}
 use Rattle.model.specs.declared.Tally.{Tally}
 use Rattle.text.specs.Digits.{digits-length}
 use Rattle.text.specs.Amount.{amount-length}
-use Rattle.tally.specs.YearRows.{Spaced}
 use Rattle.tally.specs.Printable.{Printable}
 
 -- a space and an amount
@@ -56,13 +55,6 @@ totals n t = (84 ∷ []) ++ sums (sum n (at (t .rbns))) (sum n (at (t .ibnr)))
 pub tally-text-is : (m : ℕ) (t : Tally) → tallyText m t ≡ lines line t (2 * m - 2) ++ totals (2 * m - 2) t
 unfolding tallyText allLines
 tally-text-is m t = rw (line-is (84 ∷ []) (sum (2 * m - 2) (at (t .rbns))) (sum (2 * m - 2) (at (t .ibnr))))
-
--- its sums are those of entries one place apart
-pub total-is : (n : ℕ) (xs : List ℤ) → sum n (λ k. at xs (0 + 1 * k)) ≡ sum n (at xs)
-total-is n xs = sum-cong n (λ k l. let e : 0 + 1 * k ≡ k = omega arith in ap (at xs) e)
-
-pub total-spaced : (n : ℕ) (xs : List ℤ) → n ≤ length xs → ((k : ℕ) → k ≤ n → fits64 (sum k (at xs)) ≡ true) → Spaced 0 1 n xs
-total-spaced n xs h f = record { places = λ k l. omega arith; fits = λ k l. rw (total-is k xs) (f k l) }
 
 -- ---- their lengths
 

@@ -31,7 +31,7 @@ pub fn cases() -> Vec<Case> {
             cases.extend([0, 1].map(|basis| forecast(file, m, method, basis)));
         }
         cases.extend([claim_costs(file, m), respond(file, m)]);
-        cases.extend([closing_page(file, m), replay(m)]);
+        cases.extend([closing_page(file, m), cash_in_window(file, m), replay(m)]);
         if m > 2 {
             cases.extend([1, m / 2].map(|cut| back_test(file, m, cut)));
         }
@@ -266,6 +266,27 @@ fn closing_page(file: &'static [u8], m: usize) -> Case {
         move || {
             let file = black_box(file);
             black_box(expert::closing_page(file, m, 0, 1, &mut expert_page)).ok();
+        },
+    )
+}
+
+fn cash_in_window(file: &'static [u8], m: usize) -> Case {
+    const DATES: [plain::Date; 3] = [[2023, 12, 31], [2024, 10, 1], [2025, 7, 1]];
+    let mut amount = 0;
+    case(
+        "cash in window 0 1",
+        m,
+        move || {
+            let (file, dates) = black_box((file, &DATES));
+            black_box(calls::cash_in_window(file, m, 0, 1, dates, &mut amount));
+        },
+        move || {
+            let (file, dates) = black_box((file, &DATES));
+            black_box(plain::cash_in_window(file, m, 0, 1, dates)).ok();
+        },
+        move || {
+            let (file, dates) = black_box((file, &DATES));
+            black_box(expert::cash_in_window(file, m, 0, 1, dates)).ok();
         },
     )
 }

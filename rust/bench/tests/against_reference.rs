@@ -1,8 +1,9 @@
 //! The peers against the independent calculation.
 
-use bench::plain::{BackTest, ClaimCosts, Inflation, JournalTally, Set, Shares};
+use bench::plain::{BackTest, ClaimCosts, Date, Inflation, JournalTally, Set, Shares};
 use bench::{expert, plain};
-use reference::generate::{case, closing_input, journal_case, writer_case, Case};
+use reference::cash::forecast_years;
+use reference::generate::{case, closing_input, journal_case, windows, writer_case, Case};
 use std::sync::OnceLock;
 
 const CASES: u64 = 3_000;
@@ -10,6 +11,7 @@ const CASES: u64 = 3_000;
 type Answer<T> = Result<T, u64>;
 type Forecast = fn(&[u8], usize, u64, u64, &mut [i64]) -> Answer<[i64; 20]>;
 type ClosingPage = fn(&[u8], usize, u64, u64, &mut [u8]) -> Answer<()>;
+type CashInWindow = fn(&[u8], usize, u64, u64, &[Date; 3]) -> Answer<i64>;
 
 /// The calls of a peer.
 struct Peer {
@@ -23,6 +25,7 @@ struct Peer {
     back_test: fn(&[u8], usize, u64, u64, u64) -> Answer<BackTest>,
     respond: fn(&[u8], &mut [u8]) -> usize,
     closing_page: ClosingPage,
+    cash_in_window: CashInWindow,
     replay: fn(&[u8], usize, &mut JournalTally) -> Answer<()>,
 }
 
@@ -38,6 +41,7 @@ const PEERS: [Peer; 2] = [
         back_test: plain::back_test,
         respond: plain::respond,
         closing_page: plain::closing_page,
+        cash_in_window: plain::cash_in_window,
         replay: |journal, m, tally| plain::replay(journal, m).map(|found| *tally = found),
     },
     Peer {
@@ -57,6 +61,7 @@ const PEERS: [Peer; 2] = [
         back_test: expert::back_test,
         respond: expert::respond,
         closing_page: expert::closing_page,
+        cash_in_window: expert::cash_in_window,
         replay: expert::replay,
     },
 ];
@@ -200,6 +205,23 @@ fn closing_page() {
             let wanted = wanted.unwrap_or_default();
             assert_eq!(page[..wanted.len()], *wanted.as_bytes(), "{text}");
             assert!(page[wanted.len()..].iter().all(|&byte| byte == 7), "{text}");
+        }
+    });
+}
+
+#[test]
+fn cash_in_window() {
+    each_case(|seed, case, peer, text| {
+        let (m, method, basis) = (case.m, case.method, case.basis);
+        let years = forecast_years(&case.file, m, method, basis);
+        for (span, window) in windows(seed, m) {
+            let dates = window.dates().map(|date| [date.year, date.month, date.day]);
+            let found = (peer.cash_in_window)(&case.file, m as usize, method, basis, &dates);
+            let wanted = match &years {
+                Ok(years) => years.cash(&window),
+                Err(refusal) => Err(*refusal),
+            };
+            assert_eq!(found, wanted, "{text}, {}: {window:?}", span.name());
         }
     });
 }

@@ -16,6 +16,8 @@ pub use counts::Counts;
 pub use difference::Difference;
 pub use examples::{edges, examples};
 
+use reference::Window;
+
 /// A comparison of one or several calls on the case of a seed.
 pub struct Comparison {
     pub name: &'static str,
@@ -82,6 +84,16 @@ pub fn closing_page(
     page_len: usize,
 ) -> Result<(), Difference> {
     files::closing_page(seed, file, settings, page_len, &mut Counts::default()).map(|_| ())
+}
+
+/// Compares `cash_in_window` on any file, any m, method and basis, and any dates.
+pub fn cash_in_window(
+    seed: u64,
+    file: &[u8],
+    settings: [u64; 3],
+    window: &Window,
+) -> Result<(), Difference> {
+    files::cash_in_window(seed, file, settings, window)
 }
 
 /// Compares `read_set` on any file and m.

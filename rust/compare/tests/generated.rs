@@ -1,8 +1,8 @@
 //! Every comparison on a few thousand generated cases.
 
 use compare::{Counts, COMPARISONS};
-use reference::generate::Shape;
-use reference::halves::{add, Halves, KINDS};
+use reference::generate::{Shape, Span};
+use reference::halves::{add, Halves, Kind, KINDS, OF_FORECASTS};
 
 const CASES: u64 = 3_000;
 
@@ -27,24 +27,30 @@ fn the_same(name: &str, calls: &[(&str, u64, u64)]) -> Counts {
     }
 }
 
-/// At least so many halves of every kind that there can be were met, with an even whole part and
-/// with an odd one, in sets made for halves and in the others together; none of another kind.
-fn met_halves(counts: Counts, least: [u64; 2]) {
-    let possible = KINDS.map(|(_, kind)| kind);
+/// At least so many halves of every one of these kinds were met, with an even whole part and with
+/// an odd one, in sets made for halves and in the others together.
+fn met_halves(counts: &Counts, kinds: &[(&str, Kind)], least: [u64; 2]) {
     let (mut made, mut others) = (Halves::new(), Halves::new());
-    for (shape, halves) in counts.halves {
-        assert!(halves.keys().all(|kind| possible.contains(kind)));
-        match shape {
-            Shape::Halves => add(&mut made, halves),
-            _ => add(&mut others, halves),
-        }
+    for (shape, halves) in &counts.halves {
+        let sum = match shape {
+            Shape::Halves => &mut made,
+            _ => &mut others,
+        };
+        add(sum, halves.clone());
     }
     for (halves, least) in [(made, least[0]), (others, least[1])] {
-        for (name, kind) in KINDS {
-            let met = halves.get(&kind).copied().unwrap_or_default();
+        for (name, kind) in kinds {
+            let met = halves.get(kind).copied().unwrap_or_default();
             assert!(met.iter().all(|&n| n >= least), "{name}: {met:?}");
         }
     }
+}
+
+/// No half was met that there cannot be.
+fn met_no_others(counts: &Counts) {
+    let possible = KINDS.map(|(_, kind)| kind);
+    let mut met = counts.halves.values().flat_map(Halves::keys);
+    assert!(met.all(|kind| possible.contains(kind)));
 }
 
 #[test]
@@ -75,14 +81,35 @@ fn files() {
         ("page refused 13", 100, 0),
         ("page refused 14", 50, 0),
         ("page refused 15", 2_000, 500),
+        ("cash refused 1", 20, 0),
+        ("cash refused 2", 20, 0),
+        ("cash refused 3", 20, 0),
+        ("cash refused 4", 20, 0),
+        ("cash refused 5", 20, 0),
+        ("cash refused 6", 20, 0),
+        ("cash refused 9", 20, 0),
+        ("cash refused 10", 20, 0),
+        ("cash refused 11", 20, 0),
+        ("cash refused 12", 20, 0),
+        ("cash refused 13", 20, 0),
+        ("cash refused 14", 20, 0),
+        ("cash refused 19", 1_500, 0),
     ];
-    met_halves(the_same("files", &calls), [50, 10]);
+    let counts = the_same("files", &calls);
+    for span in Span::ALL {
+        let accepted = counts.accepted[span.name()];
+        assert_eq!(accepted > 1_500, span.is_good(), "{}", span.name());
+        assert_eq!(accepted == 0, !span.is_good(), "{}", span.name());
+    }
+    met_halves(&counts, &KINDS[..OF_FORECASTS], [50, 10]);
+    met_halves(&counts, &KINDS[OF_FORECASTS..], [10, 50]);
+    met_no_others(&counts);
 }
 
 #[test]
 fn damaged_files() {
     let calls = [("read", 200, 2_000), ("page refused 15", 200, 2_000)];
-    met_halves(the_same("damaged files", &calls), [0, 0]);
+    met_no_others(&the_same("damaged files", &calls));
 }
 
 #[test]
@@ -151,7 +178,9 @@ fn inputs() {
         ("text of method 2, basis 1", 100, 0),
         ("too short", 500, 1_500),
     ];
-    met_halves(the_same("inputs", &texts), [3, 0]);
+    let counts = the_same("inputs", &texts);
+    met_halves(&counts, &KINDS[..OF_FORECASTS], [3, 0]);
+    met_no_others(&counts);
 }
 
 #[test]

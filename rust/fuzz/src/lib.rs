@@ -1,7 +1,7 @@
-//! Coverage-guided fuzzing of `respond`, `read_set`, `closing_page` and `replay` with libFuzzer:
-//! each input is put to the library and to the independent calculation of `reference`, and the
-//! answers and the lent memory are compared bit for bit. New coverage is that of the calculation
-//! and of the library's own machine code.
+//! Coverage-guided fuzzing of `respond`, `read_set`, `closing_page`, `cash_in_window` and `replay`
+//! with libFuzzer: each input is put to the library and to the independent calculation of
+//! `reference`, and the answers and the lent memory are compared bit for bit. New coverage is that
+//! of the calculation and of the library's own machine code.
 
 pub mod blocks;
 mod guarded;
@@ -13,7 +13,7 @@ pub use mutate::{change_record, mutate};
 use compare::Difference;
 use guarded::Guarded;
 use reference::examples::EXAMPLES;
-use reference::generate::Random;
+use reference::generate::{case, Random};
 
 /// The longest input: a head and some bytes more than any set or journal has.
 const LONGEST: usize = 65_600;
@@ -29,6 +29,17 @@ pub struct Target {
     pub any_head: fn(&mut Random) -> Vec<u8>,
     /// Changes one of the records behind the head.
     pub change_record: fn(&mut Random, &mut [[u8; 16]]),
+}
+
+/// A head of N numbers, 8 bytes each, least byte first, and the bytes behind it; a head that is cut
+/// short goes on with zeros.
+pub fn numbers<const N: usize>(input: &[u8]) -> ([u64; N], &[u8]) {
+    let (head, rest) = input.split_at(input.len().min(8 * N));
+    let mut bytes = head.to_vec();
+    bytes.resize(8 * N, 0);
+    let mut numbers = bytes.chunks_exact(8);
+    let number = |_| u64::from_le_bytes(numbers.next().unwrap().try_into().unwrap());
+    ([0; N].map(number), rest)
 }
 
 /// The number of years and the file of an example of document 01.
@@ -54,6 +65,23 @@ pub fn any_m(random: &mut Random) -> u64 {
         2 + (1 << 32),
         u64::MAX,
     ])
+}
+
+/// m, method and basis: any, and now and then such as there are not.
+pub fn any_settings(random: &mut Random) -> [u64; 3] {
+    let m = any_m(random);
+    [m, random.between(0, 3) as u64, random.between(0, 2) as u64]
+}
+
+/// The settings and the file of the seed's case, and now and then of an example.
+pub fn any_case(seed: u64, random: &mut Random) -> ([u64; 3], Vec<u8>) {
+    if random.one_in(8) {
+        let (m, file) = any_example(random);
+        ([m, random.below(3) as u64, random.below(2) as u64], file)
+    } else {
+        let case = case(seed);
+        ([case.m, case.method, case.basis], case.file)
+    }
 }
 
 /// Compares the answer to one input, which lies at an end of memory that can be read; panics where

@@ -51,7 +51,7 @@ fn generated(target: &Target, random: &mut Random) -> Vec<u8> {
     let most = random.pick(&[160, 320, 800, 800, 2_000, usize::MAX]);
     loop {
         let input = (target.generate)(random.number());
-        if input.len() <= most {
+        if input.len() - (target.head)(&input) <= most {
             return input;
         }
     }

@@ -82,6 +82,17 @@ mod foreign {
             page: *mut u8,
             page_len: usize,
         ) -> u64;
+        pub fn pardesul_cash_in_window(
+            file: *const u8,
+            file_len: usize,
+            m: usize,
+            method: u64,
+            basis: u64,
+            valuation: *const [u64; 3],
+            start: *const [u64; 3],
+            end: *const [u64; 3],
+            amount: *mut i64,
+        ) -> u64;
         pub fn pardesul_replay(
             journal: *const u8,
             journal_len: usize,
@@ -324,6 +335,39 @@ pub fn closing_page(file: &[u8], m: usize, method: u64, basis: u64, page: &mut [
             page.as_mut_ptr(),
             room,
         )
+    }
+}
+
+/// What of the forecast falls due in a window. The dates are the valuation date, the window's start
+/// and its end, each a year, a month and a day: any numbers.
+///
+/// ```
+/// use pardesul::calls::{cash_in_window, write_set};
+///
+/// // Each year has one claim, on which 1000 is paid at once and 1000 a year later.
+/// let (mut file, mut amount) = ([0; 96], 9);
+/// let counts = std::array::from_fn(|place| [1, 0][place % 2]);
+/// assert_eq!(write_set(2, false, &counts, &[1_000; 400], &[0; 400], &mut file), 0);
+/// let mut dates = [[2023, 12, 31], [2024, 2, 29], [2024, 2, 30]];
+/// assert_eq!(cash_in_window(&file, 2, 0, 1, &dates, &mut amount), 19);
+/// assert_eq!(amount, 9);
+/// dates[2] = [2024, 12, 31];
+/// assert_eq!(cash_in_window(&file, 2, 0, 1, &dates, &mut amount), 0);
+/// assert_eq!(amount, 836);
+/// ```
+pub fn cash_in_window(
+    file: &[u8],
+    m: usize,
+    method: u64,
+    basis: u64,
+    dates: &[[u64; 3]; 3],
+    amount: &mut i64,
+) -> u64 {
+    let [valuation, start, end] = dates;
+    let (at, len) = (file.as_ptr(), file.len());
+    // SAFETY: as above.
+    unsafe {
+        foreign::pardesul_cash_in_window(at, len, m, method, basis, valuation, start, end, amount)
     }
 }
 

@@ -57,9 +57,9 @@
 //! ```
 //!
 //! The other calls are [`shares`], [`delays`], [`claim_costs`], [`back_test`], [`Tally::add`],
-//! [`closing_page`], the forecast in columns, [`replay`], the tally of a journal, and [`respond`],
-//! the text of the program `closing`. [`calls`] has the calls themselves, over memory that the
-//! caller lends.
+//! [`closing_page`], the forecast in columns, [`cash_in_window`], what falls due between two dates,
+//! [`replay`], the tally of a journal, and [`respond`], the text of the program `closing`.
+//! [`calls`] has the calls themselves, over memory that the caller lends.
 //!
 //! The crate links `target/staticlib/libc_api.a` of its repository, which `rt staticlib c_api`
 //! writes.
@@ -68,8 +68,10 @@
 
 mod back_test;
 pub mod calls;
+mod cash;
 mod claim_costs;
 mod closing;
+mod dates;
 mod forecast;
 mod journal;
 mod page;
@@ -79,8 +81,10 @@ mod tally;
 mod triangles;
 
 pub use back_test::{back_test, BackTest};
+pub use cash::cash_in_window;
 pub use claim_costs::{claim_costs, ClaimCosts, Inflation};
 pub use closing::respond;
+pub use dates::Date;
 pub use forecast::{forecast, Basis, Forecast, Method};
 pub use journal::{replay, Journal, JournalTally};
 pub use page::closing_page;

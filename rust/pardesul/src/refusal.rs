@@ -5,7 +5,7 @@ use std::fmt;
 
 /// What is wrong where question n gets a no, at place n - 1. The header and README.md say the same,
 /// which a test holds.
-const MESSAGES: [&str; 18] = [
+const MESSAGES: [&str; 19] = [
     "m is not 2 to 20",
     "the length is not that of a set",
     "a record has a kind that the length does not allow, a cell outside the triangle, or a byte \
@@ -26,6 +26,8 @@ const MESSAGES: [&str; 18] = [
     "the journal's length is not 0 to 4096 whole transactions, or a transaction has a bad field",
     "a claim is reported twice, paid before it is reported, or paid under another accident year",
     "a calendar year is below the one before it, or a cell leaves its range",
+    "a date is impossible, the valuation date is not of the years 1900 to 2199, or the window ends \
+     before it starts or leaves the forecast years",
 ];
 
 /// The first question that got a no: its number and what is wrong.
@@ -45,6 +47,9 @@ impl Refusal {
     /// No such method or basis.
     pub(crate) const METHOD: Refusal = Refusal(6);
 
+    /// No such date.
+    pub(crate) const DATE: Refusal = Refusal(19);
+
     /// Every refusal, in the order of their numbers.
     pub fn all() -> impl Iterator<Item = Refusal> {
         (1..=MESSAGES.len() as u64).map(Refusal)
@@ -58,7 +63,7 @@ impl Refusal {
         }
     }
 
-    /// The question's number, 1 to 18.
+    /// The question's number, 1 to 19.
     pub fn number(self) -> u64 {
         self.0
     }

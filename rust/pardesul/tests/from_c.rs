@@ -57,7 +57,7 @@ fn every_function_is_called() {
         .filter(|line| !line.starts_with([' ', '/', '#']))
         .filter_map(|line| line.split_once('(')?.0.split(' ').next_back())
         .collect();
-    assert_eq!(functions.len(), 11, "{functions:?}");
+    assert_eq!(functions.len(), 12, "{functions:?}");
     for program in [source("examples.c"), root().join("rust/records/stack.c")] {
         let text = read_to_string(program).unwrap();
         for function in &functions {
@@ -75,9 +75,9 @@ fn header_from_cpp() {
     assert!(checked.status.success(), "{said}");
 }
 
-/// The struct has the same layout in both languages.
+/// The structs have the same layout in both languages.
 #[test]
-fn layout_of_the_tally() {
+fn layout_of_structs() {
     for (compiler, language) in [
         ("cc", &["-std=c11"][..]),
         ("c++", &["-std=c++11", "-x", "c++"]),

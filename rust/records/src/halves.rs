@@ -1,10 +1,12 @@
 //! The halves that the generated sets meet.
 
-use reference::generate::{halves_met, Met};
+use reference::generate::{halves_met, Met, Span};
 use reference::halves::{add, texts, KINDS};
 
 /// As many cases as the tests of `rust/compare` put to the library.
 const CASES: u64 = 3_000;
+
+const SPANS: usize = Span::ALL.len();
 
 /// The section.
 pub fn section() -> String {
@@ -14,9 +16,10 @@ pub fn section() -> String {
 ## Halves met
 
 How many quotients stood halfway between two whole numbers in the forecasts of the first {CASES}
-cases of `rust/compare`, by what is rounded and how the set is made (`rust/reference/src/generate`):
-those with an even whole part, which round to it, + those with an odd one, which round away from
-zero. Refused forecasts are not counted. Shares, ultimates and weights are never below zero.
+cases of `rust/compare`, and in what is due before both ends of {SPANS} windows of each, by what is
+rounded and how the set is made (`rust/reference/src/generate`): those with an even whole part,
+which round to it, + those with an odd one, which round away from zero. Refused forecasts and
+windows are not counted. Shares, ultimates and weights are never below zero.
 
 | sets | forecasts | {names} |
 |---|---|{}

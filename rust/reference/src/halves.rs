@@ -12,6 +12,7 @@ pub enum Quotient {
     Delay,
     RowBase,
     Cell,
+    Due,
 }
 
 /// A quotient that stood on a half, and whether it was below zero.
@@ -21,10 +22,10 @@ pub struct Kind {
     pub is_negative: bool,
 }
 
-/// The kinds that an accepted answer can have, by name. Counts and payments are not below zero, nor
-/// are, by question 13, incurred sums and shares: so no share, ultimate or weight is. Of row bases
-/// only IDCL's can be.
-pub const KINDS: [(&str, Kind); 9] = [
+/// The kinds that an accepted answer can have, by name: those of a forecast, then those of what is
+/// due before a date. Counts and payments are not below zero, nor are, by question 13, incurred
+/// sums and shares: so no share, ultimate or weight is. Of row bases only IDCL's can be.
+pub const KINDS: [(&str, Kind); 11] = [
     ("share", at(Quotient::Share, false)),
     ("ultimate", at(Quotient::Ultimate, false)),
     ("weight", at(Quotient::Weight, false)),
@@ -34,7 +35,12 @@ pub const KINDS: [(&str, Kind); 9] = [
     ("row base < 0", at(Quotient::RowBase, true)),
     ("cell", at(Quotient::Cell, false)),
     ("cell < 0", at(Quotient::Cell, true)),
+    ("due", at(Quotient::Due, false)),
+    ("due < 0", at(Quotient::Due, true)),
 ];
+
+/// How many of the kinds are those of a forecast.
+pub const OF_FORECASTS: usize = 9;
 
 const fn at(quotient: Quotient, is_negative: bool) -> Kind {
     Kind {
@@ -76,7 +82,7 @@ pub fn add(halves: &mut Halves, more: Halves) {
 }
 
 /// How many of each kind, in the order of [`KINDS`]: even + odd.
-pub fn texts(halves: &Halves) -> [String; 9] {
+pub fn texts(halves: &Halves) -> [String; 11] {
     KINDS.map(|(_, kind)| {
         let [even, odd] = halves.get(&kind).copied().unwrap_or_default();
         format!("{even} + {odd}")

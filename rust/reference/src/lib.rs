@@ -1,13 +1,16 @@
 //! An independent big-number calculation of document 01: a module for each of its sections, with
-//! its letters, with what document 02 has changed, and one each for the closing page and the claims
-//! journal of document 02. Every quantity is a whole number of any size, rounded only where the
-//! document rounds, so that nothing here depends on how large the numbers get; in the journal 64
-//! bits hold any sum. `halves` counts where the rounding met a half.
+//! its letters, with what document 02 has changed, and some for the closing page, the claims
+//! journal and cash by dates of document 02. Every quantity is a whole number of any size, rounded
+//! only where the document rounds, so that nothing here depends on how large the numbers get; in
+//! the journal 64 bits hold any sum, and 128 bits any number of days. `halves` counts where the
+//! rounding met a half.
 
 pub mod back_test;
 pub mod big;
 pub mod calendar;
+pub mod cash;
 pub mod claim_costs;
+pub mod dates;
 pub mod delays;
 pub mod examples;
 pub mod forecast;
@@ -26,7 +29,9 @@ pub mod source_002;
 pub use back_test::{back_test, BackTest};
 pub use big::Big;
 pub use calendar::{closing, Tally};
+pub use cash::{cash_in_window, Window};
 pub use claim_costs::{claim_costs, ClaimCosts, Inflation};
+pub use dates::Date;
 pub use delays::delays;
 pub use forecast::{forecast, Forecast};
 pub use journal::{replay, JournalTally, Transaction};

@@ -3,6 +3,7 @@
 //! the same order as the plain one, with the same types.
 
 mod back_test;
+mod cash;
 mod cells;
 mod claim_costs;
 mod closing;
@@ -15,6 +16,7 @@ mod row_bases;
 mod shares;
 
 pub use back_test::back_test;
+pub use cash::cash_in_window;
 pub use claim_costs::claim_costs;
 pub use closing::respond;
 pub use delays::delays;

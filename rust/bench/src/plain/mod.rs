@@ -1,8 +1,9 @@
 //! Document 01 in plain Rust with 128-bit numbers, a module for each of its sections, and the
-//! closing page and the claims journal of document 02. It asks the same questions in the same
-//! order.
+//! closing page, cash by dates and the claims journal of document 02. It asks the same questions in
+//! the same order.
 
 mod back_test;
+mod cash;
 mod claim_costs;
 mod closing;
 mod delays;
@@ -14,6 +15,7 @@ mod row_bases;
 mod shares;
 
 pub use back_test::{back_test, BackTest};
+pub use cash::{cash_in_window, Date};
 pub use claim_costs::{claim_costs, ClaimCosts, Inflation};
 pub use closing::{first_line, respond};
 pub use delays::delays;

@@ -1,6 +1,7 @@
 //! The calls that take a file.
 
 mod back_test;
+mod cash;
 mod claim_costs;
 mod delays;
 mod forecast;
@@ -8,6 +9,7 @@ mod page;
 mod reader;
 mod shares;
 
+pub use cash::compare_file as cash_in_window;
 pub use page::compare_file as closing_page;
 pub use reader::compare_file as read_set;
 
@@ -34,7 +36,8 @@ pub fn compare(seed: u64, case: &Case, counts: &mut Counts) -> Result<(), Differ
         let accepted = call(seed, case, counts)?;
         counts.count(name, accepted);
     }
-    page::compare(seed, case, counts)
+    page::compare(seed, case, counts)?;
+    cash::compare(seed, case, counts)
 }
 
 /// Every call on the seed's case.

@@ -3,8 +3,8 @@
 #![no_main]
 
 use compare::Difference;
-use fuzz::{any_example, any_m, change_record, fuzz, Target};
-use reference::generate::{case, Random};
+use fuzz::{any_case, any_settings, change_record, fuzz, numbers, Target};
+use reference::generate::Random;
 use reference::page::page_length;
 
 /// The bytes of a head.
@@ -15,9 +15,8 @@ const CLOSING_PAGE: Target = Target {
     generate,
     head: |input| input.len().min(HEAD),
     any_head: |random| {
-        let m = any_m(random);
-        let (method, basis) = (random.between(0, 3) as u64, random.between(0, 2) as u64);
-        head(random, [m, method, basis])
+        let settings = any_settings(random);
+        head(random, settings)
     },
     change_record,
 };
@@ -25,23 +24,13 @@ const CLOSING_PAGE: Target = Target {
 fuzz!(CLOSING_PAGE);
 
 fn compare(seed: u64, input: &[u8]) -> Result<(), Difference> {
-    let (head, file) = input.split_at(input.len().min(HEAD));
-    let mut bytes = [0; HEAD];
-    bytes[..head.len()].copy_from_slice(head);
-    let number = |at: usize| u64::from_le_bytes(bytes[8 * at..8 * at + 8].try_into().unwrap());
-    let [m, method, basis, length] = [0, 1, 2, 3].map(number);
+    let ([m, method, basis, length], file) = numbers(input);
     compare::closing_page(seed, file, [m, method, basis], length as usize % 4_096)
 }
 
 fn generate(seed: u64) -> Vec<u8> {
     let mut random = Random::new(seed);
-    let (settings, file) = if random.one_in(8) {
-        let (m, file) = any_example(&mut random);
-        ([m, random.below(3) as u64, random.below(2) as u64], file)
-    } else {
-        let case = case(seed);
-        ([case.m, case.method, case.basis], case.file)
-    };
+    let (settings, file) = any_case(seed, &mut random);
     [head(&mut random, settings), file].concat()
 }
 

@@ -3,8 +3,8 @@
 #![no_main]
 
 use compare::Difference;
-use fuzz::{any_example, any_m, change_record, fuzz, Target};
-use reference::generate::{case, Random};
+use fuzz::{any_case, any_m, change_record, fuzz, numbers, Target};
+use reference::generate::Random;
 
 const READ_SET: Target = Target {
     compare,
@@ -17,19 +17,12 @@ const READ_SET: Target = Target {
 fuzz!(READ_SET);
 
 fn compare(seed: u64, input: &[u8]) -> Result<(), Difference> {
-    let (head, file) = input.split_at(input.len().min(8));
-    let mut m = [0; 8];
-    m[..head.len()].copy_from_slice(head);
-    compare::read_set(seed, file, u64::from_le_bytes(m))
+    let ([m], file) = numbers(input);
+    compare::read_set(seed, file, m)
 }
 
 fn generate(seed: u64) -> Vec<u8> {
     let mut random = Random::new(seed);
-    let (m, file) = if random.one_in(8) {
-        any_example(&mut random)
-    } else {
-        let case = case(seed);
-        (case.m, case.file)
-    };
+    let ([m, ..], file) = any_case(seed, &mut random);
     [&m.to_le_bytes()[..], &file].concat()
 }

@@ -2,7 +2,7 @@
 #![no_main]
 
 use compare::Difference;
-use fuzz::{any_m, fuzz, Target};
+use fuzz::{any_m, fuzz, numbers, Target};
 use reference::generate::{journal_case, Random};
 use reference::journal::MOST_AMOUNT;
 
@@ -17,10 +17,8 @@ const REPLAY: Target = Target {
 fuzz!(REPLAY);
 
 fn compare(seed: u64, input: &[u8]) -> Result<(), Difference> {
-    let (head, journal) = input.split_at(input.len().min(8));
-    let mut m = [0; 8];
-    m[..head.len()].copy_from_slice(head);
-    compare::replay(seed, journal, u64::from_le_bytes(m))
+    let ([m], journal) = numbers(input);
+    compare::replay(seed, journal, m)
 }
 
 fn generate(seed: u64) -> Vec<u8> {

@@ -1,6 +1,6 @@
-/* The examples of document 01 from C, and a claims journal: every function of the header, accepted
- * and refused, and what a refusal leaves. Prints the first thing that is wrong and ends with status
- * 1, or ends with 0. */
+/* The examples of document 01 from C, windows of dates and a claims journal: every function of the
+ * header, accepted and refused, and what a refusal leaves. Prints the first thing that is wrong and
+ * ends with status 1, or ends with 0. */
 #include "pardesul.h"
 #include <stdio.h>
 #include <stdlib.h>
@@ -336,6 +336,61 @@ static void closing_page(void) {
          "a page with negative amounts");
 }
 
+static pardesul_date date(uint64_t year, uint64_t month, uint64_t day) {
+  return (pardesul_date){.year = year, .month = month, .day = day};
+}
+
+/* The refusal of a window of K's forecast years from 31 December 2023 on; *amount gets its cash. */
+static uint64_t window(pardesul_date start, pardesul_date end, int64_t *amount) {
+  set_file k = set_k();
+  const pardesul_date valuation = date(2023, 12, 31);
+  return pardesul_cash_in_window(k.bytes, k.length, 2, PARDESUL_METHOD_DCL,
+                                 PARDESUL_BASIS_ESTIMATED, &valuation, &start, &end, amount);
+}
+
+static void cash_in_window(void) {
+  int64_t amount;
+  set_file k = set_k(), refused = too_wide();
+  const pardesul_date valuation = date(2023, 12, 31), past = date(2025, 12, 31),
+                      none = date(2023, 2, 29), early = date(1899, 12, 31);
+  memset(&amount, BEFORE, sizeof amount);
+  expect(pardesul_cash_in_window(refused.bytes, refused.length, 2, PARDESUL_METHOD_DCL,
+                                 PARDESUL_BASIS_ESTIMATED, &none, &none, &none,
+                                 &amount) == PARDESUL_REFUSED_DELAY,
+         "the cash of paid 751, 249, before the dates are looked at");
+  expect(pardesul_cash_in_window(k.bytes, k.length, 2, PARDESUL_METHOD_DCL,
+                                 PARDESUL_BASIS_ESTIMATED, &none, &valuation, &past,
+                                 &amount) == PARDESUL_REFUSED_DATE,
+         "29 February 2023 as the valuation date");
+  expect(pardesul_cash_in_window(k.bytes, k.length, 2, PARDESUL_METHOD_DCL,
+                                 PARDESUL_BASIS_ESTIMATED, &early, &early, &early,
+                                 &amount) == PARDESUL_REFUSED_DATE,
+         "a valuation date of 1899");
+  expect(window(date(2024, 13, 1), past, &amount) == PARDESUL_REFUSED_DATE &&
+             window(valuation, date(2024, 1, 0), &amount) == PARDESUL_REFUSED_DATE &&
+             window(valuation, date(UINT64_MAX, 1, 1), &amount) == PARDESUL_REFUSED_DATE,
+         "a month 13, a day 0, and a year without end");
+  expect(window(date(2023, 12, 30), past, &amount) == PARDESUL_REFUSED_DATE &&
+             window(past, past, &amount) == PARDESUL_REFUSED_DATE &&
+             window(valuation, date(2026, 1, 1), &amount) == PARDESUL_REFUSED_DATE &&
+             window(date(2024, 1, 2), date(2024, 1, 1), &amount) == PARDESUL_REFUSED_DATE,
+         "windows that leave the forecast years, or end before they start");
+  expect(untouched(&amount, sizeof amount), "what a refused window leaves");
+  expect(window(date(2024, 1, 1), date(2024, 4, 1), &amount) == PARDESUL_ACCEPTED && amount == 125,
+         "the first quarter of 2024");
+  expect(window(valuation, date(2024, 7, 1), &amount) == PARDESUL_ACCEPTED && amount == 251,
+         "half of the first forecast year");
+  expect(window(valuation, date(2024, 12, 31), &amount) == PARDESUL_ACCEPTED && amount == 502 &&
+             window(date(2024, 12, 31), past, &amount) == PARDESUL_ACCEPTED && amount == 69 &&
+             window(valuation, past, &amount) == PARDESUL_ACCEPTED && amount == 571,
+         "each forecast year, and both");
+  expect(pardesul_cash_in_window(k.bytes, k.length, 2, PARDESUL_METHOD_IDCL,
+                                 PARDESUL_BASIS_ACTUAL, &valuation, &valuation, &valuation,
+                                 &amount) == PARDESUL_ACCEPTED &&
+             amount == 0,
+         "an empty window, whose three dates are the same memory");
+}
+
 enum { REPORTED = 0, PAID = 1 };
 
 /* Puts a transaction to the end of a journal. */
@@ -483,6 +538,7 @@ int main(void) {
   forecast();
   back_test();
   closing_page();
+  cash_in_window();
   replay();
   tally();
   respond();

@@ -1,5 +1,5 @@
-//! Seeded sets, files, journals and calls for tests and comparisons: tidy ones, ones at every
-//! limit, and ones that each question refuses.
+//! Seeded sets, files, journals, windows and calls for tests and comparisons: tidy ones, ones at
+//! every limit, and ones that each question refuses.
 
 mod damage;
 mod edges;
@@ -10,15 +10,19 @@ mod journals;
 mod patterns;
 mod random;
 mod sets;
+mod windows;
 
 pub use faults::{Fault, PAIRS};
 pub use journals::{any_journal, journal_case, JournalCase, Made, Spot};
 pub use random::Random;
 pub use sets::{any_set, set_of, shape_of, Shape};
+pub use windows::{windows, Span};
 
+use crate::calendar::Tally;
+use crate::cash::ForecastYears;
 use crate::forecast::{entry_count, forecast};
 use crate::halves::{add, during, Halves};
-use crate::records::{cells, file_length, place, write_set, Set, Values};
+use crate::records::{cells, file_length, place, write_set, Refusal, Set, Values};
 use std::collections::BTreeMap;
 use std::ops::Range;
 
@@ -67,7 +71,7 @@ pub fn case(seed: u64) -> Case {
     }
 }
 
-/// Accepted forecasts, and the halves that they met.
+/// Accepted forecasts, and the halves that they and their windows met.
 #[derive(Default)]
 pub struct Met {
     pub forecasts: u64,
@@ -79,8 +83,15 @@ pub fn halves_met(seeds: Range<u64>) -> BTreeMap<Shape, Met> {
     let mut met: BTreeMap<Shape, Met> = BTreeMap::new();
     for seed in seeds {
         let case = case(seed);
-        let (answer, halves) =
-            during(|| forecast(&case.file, case.m, case.method, case.basis, case.out_len));
+        let (answer, halves) = during(|| {
+            let answer = forecast(&case.file, case.m, case.method, case.basis, case.out_len)?;
+            let tally = Tally::of_entries(&answer.entries, case.m as usize);
+            let years = ForecastYears::of(&tally, case.m as usize);
+            for (_, window) in windows(seed, case.m) {
+                years.cash(&window).ok();
+            }
+            Ok::<(), Refusal>(())
+        });
         if answer.is_ok() {
             let met = met.entry(shape_of(seed)).or_default();
             met.forecasts += 1;

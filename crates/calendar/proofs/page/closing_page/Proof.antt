@@ -13,9 +13,10 @@ use Rattle.model.specs.CellsLaws.{size-most}
 use Rattle.model.specs.Calendar.{tallyOf}
 use Rattle.model.specs.CallsLaws.{settingsRefusal}
 use Rattle.forecast.specs.ReadFile.{passed-settings, read-sized, read-in-range}
+use Rattle.forecast.specs.SmallEntries.{set-small}
 use Rattle.tally.specs.YearSums.{Small}
 use Rattle.tally.specs.Printable.{Printable}
-use Rattle.calendar.specs.PageCall.{by-settings, by-room, page-refused, set-refused, forecast-small, forecast-printable, page-written}
+use Rattle.calendar.specs.PageCall.{by-settings, by-room, page-refused, set-refused, forecast-printable, page-written}
 use borrow.Author.Needs.{needs}
 use Rattle.calendar.proofs.page.closing_page.Statement.{statement}
 use Rattle.calendar.proofs.page.closing_page.Tie as tie
@@ -77,7 +78,7 @@ module _ (c : tie.After-forecast-set) where
   set = base .read-to-forecast .ensures .holds (read .if1 .left)
 
   small : c .forecast-set .result ≡ 0 → (2 ≤ m base) × (m base ≤ 20) × (size (m base) ≤ 1560) × Small (m base) out
-  small = forecast-small (m base) (f base) (start base .args .method) (start base .args .basis) (page base) passed (enough .if2 .left) set (c .forecast-set .ensures .0 (hasIncurred (m base) (f base)))
+  small = set-small (m base) (f base) (start base .args .method) (start base .args .basis) passed set (c .forecast-set .ensures .0 (hasIncurred (m base) (f base)))
 
   printable : c .forecast-set .result ≡ 0 → Printable (m base) (tallyOf (m base) out)
   printable = forecast-printable (m base) (f base) (start base .args .method) (start base .args .basis) (page base) passed (enough .if2 .left) set (c .forecast-set .ensures .0 (hasIncurred (m base) (f base)))

@@ -9,7 +9,7 @@ use Rattle.model.specs.Page.{aligned, columns, heading}
 use Rattle.model.specs.declared.Tally.{Tally}
 use Rattle.text.specs.Written.{Written, written-then}
 use Rattle.tally.specs.YearSums.{tallyIn}
-use Rattle.text.specs.TallyTextLaws.{total-is, total-spaced}
+use Rattle.tally.specs.YearRows.{total-is, total-spaced}
 use Rattle.text.specs.PageLaws.{page-is, page-lines-length, year-amounts}
 use borrow.Author.Needs.{needs, sfits-of}
 use Rattle.text.proofs.page.write_page.Statement.{statement}

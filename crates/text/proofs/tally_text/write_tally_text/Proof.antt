@@ -7,7 +7,8 @@ use mir.Facts.{toZ-ofZ}
 use Rattle.model.specs.declared.Tally.{Tally}
 use Rattle.tally.specs.YearSums.{tallyIn}
 use Rattle.text.specs.Written.{Written, written-then, written-whole}
-use Rattle.text.specs.TallyTextLaws.{tally-text-is, tally-text-size, total-is, total-spaced}
+use Rattle.tally.specs.YearRows.{total-is, total-spaced}
+use Rattle.text.specs.TallyTextLaws.{tally-text-is, tally-text-size}
 use borrow.Author.Needs.{needs, sfits-of}
 use Rattle.text.proofs.tally_text.write_tally_text.Statement.{statement}
 use Rattle.text.proofs.tally_text.write_tally_text.Tie as tie

@@ -1,0 +1,89 @@
+-- Laws of the call: its refusal question by question, and its contract. Assumes nothing.
+use mathlib.Core.Path.{_≡_, sym, _∙_, ap}
+use mathlib.Core.Bool.{true, false}
+use mathlib.Core.List.{List, [], _∷_, _++_}
+use Prim.Native.Nat.{ℕ, _-_, _*_}
+use native.Mathlib.Omega.{arith}
+use lib.IntN.{ℤ}
+use Rattle.model.specs.Records.{setOf}
+use Rattle.model.specs.Delays.{delaysOf}
+use Rattle.model.specs.Cash.{cashIn}
+use Rattle.model.specs.Questions.{Question, q19, firstNo, ofForecast}
+use Rattle.model.specs.QuestionsLaws.{forecast-numbered, stage-no, stage-yes, stages-so}
+use Rattle.model.specs.Calls.{zeros, callRefusal, fileTally, cashRefusal, acceptedCash, refusedCash, cashAnswer}
+use Rattle.model.specs.CallsLaws.{settingsRefusal, first-settings, after-settings, both-so, if-accepted, if-refused}
+use Rattle.model.specs.Tests.{by-test}
+use Rattle.model.specs.declared.TriangleSet.{TriangleSet}
+use Rattle.model.specs.declared.Date.{Date}
+use Rattle.triangles.specs.Order.{SameRecords, hasIncurred-order, questions-order, set-order}
+use Rattle.triangles.specs.CallsOrder.{output-order}
+use Rattle.forecast.specs.SetForecast.{setRefusal}
+
+module _ (m : ℕ) (f : List ℕ) (method basis : ℕ) (v a b : Date) where
+  abbrev s : TriangleSet
+  s = setOf m f
+
+  abbrev settings : ℕ
+  settings = settingsRefusal m f method basis
+
+  abbrev refusal : ℕ
+  refusal = cashRefusal m f method basis v a b
+
+  abbrev ofSet : List Question
+  ofSet = ofForecast m s (delaysOf m s) method
+
+  abbrev ofDates : List Question
+  ofDates = (19, q19 m v a b) ∷ []
+
+  -- ---- the refusal
+  pub by-settings : (settings ≡ 0 → ⊥) → refusal ≡ settings
+  unfolding cashRefusal callRefusal
+  by-settings = first-settings m f method basis (ofSet ++ ofDates)
+
+  module _ (passed : settings ≡ 0) where
+    after : refusal ≡ firstNo (ofSet ++ ofDates)
+    unfolding cashRefusal callRefusal
+    after = after-settings m f method basis (ofSet ++ ofDates) passed
+
+    pub by-set : (setRefusal m s method ≡ 0 → ⊥) → refusal ≡ setRefusal m s method
+    unfolding setRefusal
+    by-set o = after ∙ stage-no ofSet ofDates (forecast-numbered m s (delaysOf m s) method) o
+
+    module _ (forecast : setRefusal m s method ≡ 0) where
+      last : refusal ≡ firstNo ofDates
+      unfolding setRefusal
+      last = after ∙ stage-yes ofSet ofDates (forecast-numbered m s (delaysOf m s) method) forecast
+
+      pub by-dates : q19 m v a b ≡ false → refusal ≡ 19
+      unfolding firstNo
+      by-dates e = last ∙ rw e
+
+      pub accepted : q19 m v a b ≡ true → refusal ≡ 0
+      unfolding firstNo
+      accepted e = last ∙ rw e
+
+  -- what the questions say of an accepted window
+  pub cash-so : refusal ≡ 0 → (settings ≡ 0) × (setRefusal m s method ≡ 0) × (q19 m v a b ≡ true)
+  unfolding cashRefusal callRefusal setRefusal firstNo
+  cash-so z =
+      let x = both-so m f method basis (ofSet ++ ofDates) z in
+      let y = stages-so ofSet ofDates (forecast-numbered m s (delaysOf m s) method) (x .1) in
+      (x .0, y .0, by-test (q19 m v a b) (λ e. e) (λ e. absurd (let n : _≡_ {A = ℕ} 19 0 = rw e at (y .1) in omega arith)))
+
+  -- ---- the answer
+  abbrev amount : ℤ
+  amount = cashIn (2 * m - 2) (fileTally m f method basis) v a b
+
+  pub refused-is : {n : ℕ} → (n ≡ 0 → ⊥) → refusal ≡ n → refusedCash n ≡ cashAnswer m f method basis v a b
+  unfolding cashAnswer
+  refused-is o e = sym (if-refused refusal (acceptedCash amount) (refusedCash refusal) (λ z. o (sym e ∙ z)) ∙ ap refusedCash e)
+
+  pub accepted-is : {z : ℤ} → refusal ≡ 0 → z ≡ amount → acceptedCash z ≡ cashAnswer m f method basis v a b
+  unfolding cashAnswer
+  accepted-is e q = ap acceptedCash q ∙ sym (if-accepted refusal (acceptedCash amount) (refusedCash refusal) e)
+
+-- ---- the order of the records changes nothing
+pub cash-order : (f g : List ℕ) → SameRecords f g → (m method basis : ℕ) (v a b : Date) → cashAnswer m f method basis v a b ≡ cashAnswer m g method basis v a b
+unfolding cashAnswer cashRefusal callRefusal fileTally
+cash-order f g same m method basis v a b =
+    rw (questions-order f g same m, hasIncurred-order f g same m, set-order f g same m, output-order f g same m method basis (zeros 1560))

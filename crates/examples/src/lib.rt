@@ -1,0 +1,2 @@
+// Examples of our own, held to the definitions by computation. They stand in specs/; there is no
+// code.

@@ -27,7 +27,7 @@ use Rattle.forecast.specs.SetForecast.{Answered, setRefusal}
 use Rattle.forecast.specs.FileLaws as FileLaws
 use Rattle.forecast.specs.SmallEntries.{file-small, set-number, set-accepted, set-forecast}
 use Rattle.tally.specs.Printable.{Printable, small-printable}
-use Rattle.text.specs.PageLaws.{page-length}
+use Rattle.page_text.specs.PageLaws.{page-length}
 use Rattle.calendar.specs.Respond.{text-accepted}
 use Rattle.calendar.specs.PageReads.{PageReads}
 use Rattle.calendar.specs.PageReadsLaws.{tally-reads}

@@ -24,7 +24,7 @@ use Rattle.text.specs.ReadBack.{digits-are}
 use Rattle.text.specs.Digits.{value-digits}
 use Rattle.text.specs.Amount.{amountValue, amount-back}
 use Rattle.tally.specs.Printable.{Printable}
-use Rattle.text.specs.PageLaws.{LineFits, narrow, aligned-length, page-line-length, page-lines-length, year-width, year-amounts, total-amounts, page-length}
+use Rattle.page_text.specs.PageLaws.{LineFits, narrow, aligned-length, page-line-length, page-lines-length, year-width, year-amounts, total-amounts, page-length}
 use Rattle.calendar.specs.PageReads.{fieldAt, trimmed, lineOf, word, part, until, past, SameAmount, SameLine, PageReads}
 use Rattle.calendar.specs.ReadingLaws.{until-at, past-at, until-end, Lines, IsLine, no-lines, one-line, more-lines, LineAt, line-read, line-below, field-is, trimmed-aligned}
 

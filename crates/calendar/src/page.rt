@@ -1,6 +1,6 @@
 // The closing page of a file (02, Job 1).
+use page_text::write_page;
 use tally::tally_of;
-use text::page::write_page;
 ghost use mathlib.Core.Path.{_≡_};
 ghost use lib.ListN.{length};
 ghost use Rattle.model.specs.Calls.{pageRefusal, pageOutput};

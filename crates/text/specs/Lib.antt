@@ -1,5 +1,5 @@
--- Laws of decimal text: how it is written, how long it is, and that it reads back; of the text and
--- the page of a tally.
+-- Laws of decimal text: how it is written, how long it is, and that it reads back; of the text of a
+-- tally.
 pub mod Bytes
 pub mod Written
 pub mod Digits
@@ -7,4 +7,3 @@ pub mod Amount
 pub mod Runs
 pub mod ReadBack
 pub mod TallyTextLaws
-pub mod PageLaws

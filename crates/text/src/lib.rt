@@ -1,8 +1,7 @@
 // Text in lent memory. Numbers and fields are written from a place on, each by a function that
-// hands back the place after what it wrote; of these the text and the page of a tally are made. The
-// first line of `closing` is read.
+// hands back the place after what it wrote; of these the text of a tally is made, and elsewhere the
+// closing page. The first line of `closing` is read.
 pub mod first_line;
-pub mod page;
 pub mod tally_text;
 
 ghost use mathlib.Core.Path.{_≡_};

@@ -1,4 +1,4 @@
--- `text::page::write_amounts` meets its contract: three fields and a newline, one after the
+-- `page_text::write_amounts` meets its contract: three fields and a newline, one after the
 -- other. Assumes nothing.
 use mathlib.Core.Path.{_≡_}
 use Prim.Native.Nat.{_+_, _≤_}
@@ -12,11 +12,11 @@ use mir.Facts.{toZ-ofZ}
 use Rattle.model.specs.Calendar.{amount}
 use Rattle.model.specs.CalendarLaws.{fits-so, so-fits}
 use Rattle.model.specs.Page.{aligned}
 use Rattle.text.specs.Written.{Written, written-then}
-use Rattle.text.specs.PageLaws.{amounts, narrow, aligned-length}
+use Rattle.page_text.specs.PageLaws.{amounts, narrow, aligned-length}
 use borrow.Author.Needs.{needs}
-use Rattle.text.proofs.page.write_amounts.Statement.{statement}
-use Rattle.text.proofs.page.write_amounts.Tie as tie
+use Rattle.page_text.proofs.write_amounts.Statement.{statement}
+use Rattle.page_text.proofs.write_amounts.Tie as tie
 
 -- a column of a signed 64-bit number has 21 bytes
 short : {z : ℤ} → SFits w64 z → length (amount z) ≤ 21

@@ -1,4 +1,4 @@
--- `text::page::write_years` meets its contract. The invariant: the lines of the first k years
+-- `page_text::write_years` meets its contract. The invariant: the lines of the first k years
 -- are written, 68 bytes each, and nothing else. Assumes nothing.
 use mathlib.Core.Path.{_≡_, ap}
 use Prim.Native.Nat.{_+_, _-_, _*_, _^_, _≤_, _<_}
@@ -14,12 +14,12 @@ use Rattle.model.specs.Calendar.{digits, amount, lines}
 use Rattle.model.specs.CalendarLaws.{so-fits}
 use Rattle.model.specs.Page.{aligned, pageLine}
 use Rattle.model.specs.declared.Tally.{Tally}
 use Rattle.text.specs.Written.{Written, written-none, written-then, written-length}
 use Rattle.tally.specs.YearSums.{tallyIn}
 use Rattle.text.specs.TallyTextLaws.{lines-none}
-use Rattle.text.specs.PageLaws.{LineFits, page-next, aligned-length, amounts-length, year-width}
-use Rattle.text.proofs.page.write_years.Statement.{statement}
-use Rattle.text.proofs.page.write_years.Tie as tie
+use Rattle.page_text.specs.PageLaws.{LineFits, page-next, aligned-length, amounts-length, year-width}
+use Rattle.page_text.proofs.write_years.Statement.{statement}
+use Rattle.page_text.proofs.write_years.Tie as tie
 
 abbrev Inv-loop : tie.InvT-loop
 Inv-loop out₀ start n rbns ibnr end₀ k₀ out end k = (k ≤ n) × (end ≡ start + 68 * k) × Written out₀ start (lines pageLine (tallyIn rbns ibnr) k) out end

@@ -1,8 +1,8 @@
 // The closing page of a tally (02, Job 1): its calendar years in columns, for paper.
-use crate::put;
-use crate::write_aligned;
-use crate::write_bytes;
 use tally::spaced_sum;
+use text::put;
+use text::write_aligned;
+use text::write_bytes;
 ghost use mathlib.Core.Path.{_≡_};
 ghost use mathlib.Core.Bool.{true};
 ghost use Prim.Native.Nat.{ℕ, _+_, _*_, _≤_, _<_};
@@ -12,10 +12,10 @@ ghost use Rattle.model.specs.Lists.{at};
 ghost use Rattle.model.specs.Overlay.{overlay};
 ghost use Rattle.model.specs.Calendar.{fits64, lines};
 ghost use Rattle.model.specs.Page.{pageLine, pageText};
 ghost use Rattle.text.specs.Written.{Written};
 ghost use Rattle.tally.specs.YearSums.{tallyIn};
 ghost use Rattle.tally.specs.Printable.{Printable};
-ghost use Rattle.text.specs.PageLaws.{amounts};
+ghost use Rattle.page_text.specs.PageLaws.{amounts};
 
 // Writes what stands behind a line's name: RBNS, IBNR and their sum in 21 bytes each, and a
 // newline.

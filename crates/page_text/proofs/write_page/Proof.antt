@@ -1,4 +1,4 @@
--- `text::page::write_page` meets its contract: the heading, the lines of the years, ALL and the
+-- `page_text::write_page` meets its contract: the heading, the lines of the years, ALL and the
 -- totals. Assumes nothing.
 use mathlib.Core.Path.{_≡_}
 use Prim.Native.Nat.{_+_, _-_, _*_}
@@ -7,13 +7,13 @@ use denote.Ref.{now}
 use mir.Facts.{toZ-ofZ}
 use Rattle.model.specs.Page.{aligned, columns, heading}
 use Rattle.model.specs.declared.Tally.{Tally}
 use Rattle.text.specs.Written.{Written, written-then}
 use Rattle.tally.specs.YearSums.{tallyIn}
 use Rattle.tally.specs.YearRows.{total-is, total-spaced}
-use Rattle.text.specs.PageLaws.{page-is, page-lines-length, year-amounts}
+use Rattle.page_text.specs.PageLaws.{page-is, page-lines-length, year-amounts}
 use borrow.Author.Needs.{needs, sfits-of}
-use Rattle.text.proofs.page.write_page.Statement.{statement}
-use Rattle.text.proofs.page.write_page.Tie as tie
+use Rattle.page_text.proofs.write_page.Statement.{statement}
+use Rattle.page_text.proofs.write_page.Tie as tie
 
 abbrev start : tie.After-write-bytes → tie.Start
 start a = a .before .before .before .before

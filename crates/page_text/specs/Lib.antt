@@ -1,0 +1,2 @@
+-- Laws of the closing page.
+pub mod PageLaws

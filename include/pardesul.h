@@ -31,10 +31,10 @@
  * nothing: every output stays as it was.
  *
  * Memory. Pointers are not null, each is to as many places as its declaration says, and the memory
- * lent to one call does not overlap, but for memory that is only read. An empty file, journal or
- * output is a pointer to anything and the length 0. A call keeps nothing for the next one, so calls
- * may run at the same time in several threads. PARDESUL_STACK bytes of stack are enough for any of
- * them. */
+ * lent to one call does not overlap, but for memory that is only read. An empty file, journal, list
+ * of delays or output is a pointer to anything and the length 0. A call keeps nothing for the next
+ * one, so calls may run at the same time in several threads. PARDESUL_STACK bytes of stack are
+ * enough for any of them. */
 #ifndef PARDESUL_H
 #define PARDESUL_H
 
@@ -46,8 +46,8 @@
 extern "C" {
 #endif
 
-/* The version, 1,000,000 x major + 1,000 x minor + patch: 0.6.0. */
-#define PARDESUL_VERSION 6000
+/* The version, 1,000,000 x major + 1,000 x minor + patch: 0.7.0. */
+#define PARDESUL_VERSION 7000
 
 /* The bytes of stack that are enough for each call, and for any of them: so many a thread has to
  * have free when it makes the call. No theorem says so: the most that a call takes was measured
@@ -57,10 +57,12 @@ extern "C" {
 #define PARDESUL_STACK_WRITE_SET (1 * 1024)
 #define PARDESUL_STACK_SHARES (14 * 1024)
 #define PARDESUL_STACK_DELAYS (15 * 1024)
+#define PARDESUL_STACK_CHECK_DELAYS (15 * 1024)
 #define PARDESUL_STACK_CLAIM_COSTS (15 * 1024)
 #define PARDESUL_STACK_FORECAST (15 * 1024)
+#define PARDESUL_STACK_FORECAST_WITH_DELAYS (15 * 1024)
 #define PARDESUL_STACK_BACK_TEST (19 * 1024)
-#define PARDESUL_STACK_CLOSING_PAGE (29 * 1024)
+#define PARDESUL_STACK_CLOSING_PAGE (30 * 1024)
 #define PARDESUL_STACK_CASH_IN_WINDOW (30 * 1024)
 #define PARDESUL_STACK_REPLAY (12 * 1024)
 #define PARDESUL_STACK_TALLY_ADD (3 * 1024)
@@ -124,7 +126,9 @@ enum pardesul_inflation {
  * delay j, estimated from them; a row base is the amount that a year's forecast spreads. 13 and 14
  * come under methods 1 and 2 only; 15 is asked of a closing page, in place of 7; 16 to 18 are asked
  * of a journal, after 1: the length first, then transaction by transaction, of each by rising
- * number; 19 is asked of a window's dates, after all others. */
+ * number; 19 is asked of a window's dates, after all others; 20 is asked of given delays, in place
+ * of 12: p(l) is the delay at place l, b(j) and q(j) are the shares of counts and of payments at
+ * delay j, in billionths. */
 enum pardesul_refusal {
   PARDESUL_ACCEPTED = 0,
   /* m is not 2 to 20 */
@@ -168,6 +172,9 @@ enum pardesul_refusal {
   /* a date is impossible, the valuation date is not of the years 1900 to 2199, or the window ends
    * before it starts or leaves the forecast years */
   PARDESUL_REFUSED_DATE = 19,
+  /* the given delays are not m in number, one is outside -8 × 10^9 to 8 × 10^9, or a sum of b(k) ×
+   * p(l-k), k from 0 to l, is more than b(0) / 2 away from 10^9 × q(l) */
+  PARDESUL_REFUSED_GIVEN_DELAYS = 20,
 };
 
 /* What a journal comes to. The members follow one another without a gap, at bytes 0, 4096, 7296 and
@@ -228,6 +235,15 @@ uint64_t pardesul_shares(const uint8_t *file, size_t file_length, size_t m,
 uint64_t pardesul_delays(const uint8_t *file, size_t file_length, size_t m,
                          int64_t p[PARDESUL_LENT(PARDESUL_LIST)]);
 
+/* Whether delays from elsewhere are delays of the set. There are `number` of them, any numbers, in
+ * billionths. They are accepted where there are m, each is within -8 × 10^9 to 8 × 10^9, and for
+ * each l from 0 to m - 1 the sum of b(k) × p(l-k), k from 0 to l, is at most b(0) / 2 away from
+ * 10^9 × q(l), with b and q of pardesul_shares. The first m of pardesul_delays are accepted; where
+ * a delay's quotient is a half, so are delays that go on from its other neighbour. Refuses with 1
+ * to 5, 9 to 11 and 20. */
+uint64_t pardesul_check_delays(const uint8_t *file, size_t file_length, size_t m,
+                               const int64_t *delays, size_t number);
+
 /* The claim costs: mu, the mean cost of year 1; factors, f(j) of paid at place j - 1; and the
  * inflation of year i at place i - 1: what it is, an enum pardesul_inflation, in kinds, and its
  * ratio to mu in ratios. Factors past the last one are 0, ratios are 0 where there is none, and
@@ -247,6 +263,15 @@ uint64_t pardesul_claim_costs(const uint8_t *file, size_t file_length, size_t m,
 uint64_t pardesul_forecast(const uint8_t *file, size_t file_length, size_t m, uint64_t method,
                            uint64_t basis, int64_t *out, size_t out_length,
                            int64_t leftovers[PARDESUL_LENT(PARDESUL_LIST)]);
+
+/* The forecast with given delays, those of pardesul_check_delays, in place of the ones that
+ * pardesul_delays solves; all else is as in pardesul_forecast, and so are out and leftovers where
+ * the delays are the first m of pardesul_delays. Refuses with 1 to 7, 9 to 11, 20, 13 and 14, in
+ * this order. */
+uint64_t pardesul_forecast_with_delays(const uint8_t *file, size_t file_length, size_t m,
+                                       uint64_t method, uint64_t basis, const int64_t *delays,
+                                       size_t number, int64_t *out, size_t out_length,
+                                       int64_t leftovers[PARDESUL_LENT(PARDESUL_LIST)]);
 
 /* The back-test: the set without its latest c calendar years is forecast, and RBNS + IBNR held
  * against what was paid in them. cells is the number of cells compared; cellwise, yearwise and

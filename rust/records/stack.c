@@ -1,7 +1,7 @@
 /* How much stack each call takes: it runs on a stack that was filled with one byte, and the lowest
  * byte that changed is looked for. The most is taken over sets of 20 years that get each answer of
- * the call, under every method and basis, with every cut and for windows with and without a day,
- * and over journals that do. In the repository's folder,
+ * the call, under every method and basis, with every cut, for windows with and without a day and
+ * for given delays, and over journals that do. In the repository's folder,
  *
  *     cc -O2 -Wl,-z,now -I include rust/records/stack.c target/staticlib/libc_api.a -o stack
  *     ./stack
@@ -31,6 +31,9 @@ static uint8_t page[PARDESUL_PAGE_LENGTH(YEARS)];
 static uint64_t sums[4];
 static bool has_incurred;
 static pardesul_journal_tally journal_tally;
+
+/* The delays of the sets that are accepted, and the same with the last one off. */
+static int64_t given[2][YEARS];
 
 /* As many transactions as a journal may have. */
 static uint8_t journal[PARDESUL_JOURNAL_MOST * PARDESUL_TRANSACTION];
@@ -83,6 +86,16 @@ static void delays(void) {
   EACH_INPUT answer(pardesul_delays(in->file, in->length, m, lists[0]));
 }
 
+/* All of them, and one too few. */
+#define EACH_GIVEN                                                                                 \
+  for (size_t list = 0; list <= 1; list++)                                                         \
+    for (size_t number = YEARS - 1; number <= YEARS; number++)
+
+static void check_delays(void) {
+  EACH_INPUT EACH_GIVEN answer(
+      pardesul_check_delays(in->file, in->length, m, given[list], number));
+}
+
 static void claim_costs(void) {
   EACH_INPUT answer(pardesul_claim_costs(in->file, in->length, m, &mu, factors, kinds, ratios));
 }
@@ -91,6 +104,14 @@ static void forecast(void) {
   EACH_INPUT EACH_METHOD for (size_t less = 0; less <= 1; less++) {
     answer(pardesul_forecast(in->file, in->length, m, method, basis, entries,
                              PARDESUL_ENTRIES(YEARS) - less, lists[0]));
+  }
+}
+
+static void forecast_with_delays(void) {
+  EACH_INPUT EACH_METHOD EACH_GIVEN for (size_t less = 0; less <= 1; less++) {
+    answer(pardesul_forecast_with_delays(in->file, in->length, m, method, basis, given[list],
+                                         number, entries, PARDESUL_ENTRIES(YEARS) - less,
+                                         lists[0]));
   }
 }
 
@@ -258,6 +279,14 @@ static void add_all(void) {
   accepted();
 }
 
+/* The delays of the first file, which is accepted. */
+static void give_delays(void) {
+  if (pardesul_delays(inputs[0].file, inputs[0].length, YEARS, given[0]) != PARDESUL_ACCEPTED)
+    exit(1);
+  memcpy(given[1], given[0], sizeof *given);
+  given[1][YEARS - 1]++;
+}
+
 int main(void) {
   static const struct {
     const char *name;
@@ -269,8 +298,12 @@ int main(void) {
       {"write_set", write_set, PARDESUL_STACK_WRITE_SET, 1u << 0 | 1u << 1 | 1u << 5 | 1u << 7},
       {"shares", shares, PARDESUL_STACK_SHARES, FROM_TO(0, 5) | FROM_TO(9, 11)},
       {"delays", delays, PARDESUL_STACK_DELAYS, FROM_TO(0, 5) | FROM_TO(9, 12)},
+      {"check_delays", check_delays, PARDESUL_STACK_CHECK_DELAYS,
+       FROM_TO(0, 5) | FROM_TO(9, 11) | 1u << 20},
       {"claim_costs", claim_costs, PARDESUL_STACK_CLAIM_COSTS, FROM_TO(0, 5) | FROM_TO(9, 11)},
       {"forecast", forecast, PARDESUL_STACK_FORECAST, FROM_TO(0, 7) | FROM_TO(9, 14)},
+      {"forecast_with_delays", forecast_with_delays, PARDESUL_STACK_FORECAST_WITH_DELAYS,
+       FROM_TO(0, 7) | FROM_TO(9, 11) | 1u << 13 | 1u << 14 | 1u << 20},
       {"back_test", back_test, PARDESUL_STACK_BACK_TEST, FROM_TO(0, 6) | FROM_TO(8, 14)},
       {"closing_page", closing_page, PARDESUL_STACK_CLOSING_PAGE, FROM_TO(0, 6) | FROM_TO(9, 15)},
       {"cash_in_window", cash_in_window, PARDESUL_STACK_CASH_IN_WINDOW,
@@ -282,6 +315,7 @@ int main(void) {
   int status = 0;
   size_t most = 0;
   add_all();
+  give_delays();
   write_journal();
   const size_t none = changed(nothing);
   for (size_t at = 0; at < sizeof calls / sizeof *calls; at++) {

@@ -4,7 +4,7 @@ ghost use lib.ListN.{length};
 ghost use Rattle.model.specs.Records.{setOf};
 ghost use Rattle.model.specs.PaidReserve.{NearReserves};
 ghost use Rattle.model.specs.Calendar.{tallyAdd};
-ghost use Rattle.model.specs.Calls.{ifAccepted, forecastAnswer, forecastOutput};
+ghost use Rattle.model.specs.Calls.{ifAccepted, forecastAnswer, forecastOutput, forecastWithAnswer, forecastWithOutput};
 
 // The forecast: the cells go to the front of the output, the leftover of year i to place i - 1.
 #[no_mangle]
@@ -22,6 +22,25 @@ pub extern "C" fn pardesul_forecast(
     ensures { λ r. ⌜ (r ≡ 0 → method ≡ 0 → basis ≡ 1 → NearReserves m (setOf m (now (file .entry)) .paid) (now (out .exit))) ⌝ }
 {
     forecast::forecast_into(file, m, method, basis, leftovers, out)
+}
+
+// The forecast by delays that are given.
+#[no_mangle]
+pub extern "C" fn pardesul_forecast_with_delays(
+    file: &[u8],
+    m: usize,
+    method: u64,
+    basis: u64,
+    delays: &[i64],
+    out: &mut [i64],
+    leftovers: &mut [i64; 20],
+) -> u64
+    ensures { λ r. ⌜ r ≡ forecastWithAnswer m (now (file .entry)) method basis (now (delays .entry)) (length (now (out .entry))) .refusal ⌝ }
+    ensures { λ _. ⌜ now (out .exit) ≡ forecastWithOutput m (now (file .entry)) method basis (now (delays .entry)) (now (out .entry)) ⌝ }
+    ensures { λ r. ⌜ now (leftovers .exit) ≡ ifAccepted r (forecastWithAnswer m (now (file .entry)) method basis (now (delays .entry)) (length (now (out .entry))) .leftovers) (now (leftovers .entry)) ⌝ }
+    ensures { λ r. ⌜ (r ≡ 0 → method ≡ 0 → basis ≡ 1 → NearReserves m (setOf m (now (file .entry)) .paid) (now (out .exit))) ⌝ }
+{
+    forecast::forecast_with_delays_into(file, m, method, basis, delays, leftovers, out)
 }
 
 // The calendar-year tally with one cell added.

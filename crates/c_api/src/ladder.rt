@@ -1,6 +1,6 @@
-// Shares, ultimates and delays.
+// Shares, ultimates, delays, and delays that are given.
 ghost use mathlib.Core.Path.{_≡_};
-ghost use Rattle.model.specs.Calls.{ifAccepted, sharesAnswer, delaysAnswer};
+ghost use Rattle.model.specs.Calls.{ifAccepted, sharesAnswer, delaysAnswer, checkDelaysRefusal};
 
 // Shares and ultimates: b and N of counts; q, g and U of paid. Delay j stands at place j, year i at
 // place i - 1.
@@ -31,4 +31,12 @@ pub extern "C" fn pardesul_delays(file: &[u8], m: usize, p: &mut [i64; 20]) -> u
     ensures { λ r. ⌜ now (p .exit) ≡ ifAccepted r (delaysAnswer m (now (file .entry)) .p) (now (p .entry)) ⌝ }
 {
     delays::delays_into(file, m, p)
+}
+
+// Whether given delays fit the file.
+#[no_mangle]
+pub extern "C" fn pardesul_check_delays(file: &[u8], m: usize, delays: &[i64]) -> u64
+    ensures { λ r. ⌜ r ≡ checkDelaysRefusal m (now (file .entry)) (now (delays .entry)) ⌝ }
+{
+    delays::check_delays(file, m, delays)
 }

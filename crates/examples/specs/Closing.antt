@@ -1,10 +1,15 @@
--- Examples of what `closing` prints for a refusal. Assumes nothing.
+-- Examples of what `closing` prints. Assumes nothing.
 use Prim.Native.Nat.{ℕ, _+_}
 use mathlib.Core.Path.{_≡_, refl}
 use mathlib.Core.List.{List, [], _∷_, _++_}
 use Rattle.model.specs.Calls.{closingText}
-use Rattle.model.specs.Examples.{two, asked}
+use Rattle.model.specs.Examples.{two, asked, printed}
 use Rattle.model.specs.Further.{K, told, opened-further}
+
+-- 01's example, with the values that 02, Job 4, gives
+pub closing-example : closingText asked ≡ printed
+unfolding opened-further
+closing-example = refl
 
 -- a first line with one digit for each number, and a file
 abbrev input : ℕ → ℕ → ℕ → List ℕ → List ℕ

@@ -9,7 +9,7 @@ use lib.ListN.{take, replicate}
 use Rattle.model.specs.Records.{givenSet, setOf}
 use Rattle.model.specs.Questions.{q1}
 use Rattle.model.specs.SetFile.{word, recordOf, fileOf}
-use Rattle.model.specs.Calls.{acceptedRead, readAnswer, refusedRead, writeRefusal}
+use Rattle.model.specs.Calls.{acceptedRead, readAnswer, refusedRead, writeRefusal, writeOutput}
 use Rattle.model.specs.Examples.{rowOf, two}
 use Rattle.model.specs.Further.{K, negativeSet, less, lentCells, refused, opened-further}
 
@@ -45,6 +45,14 @@ lent x y z = lentCells (less (2 ^ 63)) x y z
 -- n bytes
 abbrev wrote : ℕ → Bool → ℤ → ℤ → ℤ → ℕ → ℕ
 wrote m there x y z n = writeRefusal m there (lent (pos 80) (pos 20) x) (lent (pos 600) (pos 400) y) (lent (pos 900) (pos 100) z) n
+
+-- 02, Job 2: the bytes past the file stay, and so do all where there is room for all but one
+abbrev wroteInto : ℕ → List ℕ
+wroteInto n = writeOutput 2 true (lent (pos 80) (pos 20) (pos 90)) (lent (pos 600) (pos 400) (pos 660)) (lent (pos 900) (pos 100) (pos 1080)) (replicate n 7)
+
+pub outputs : (wroteInto 146 ≡ K ++ (7 ∷ 7 ∷ [])) × (wroteInto 143 ≡ replicate 143 7)
+unfolding opened-further
+outputs = (refl, refl)
 
 -- accepted with just the room of the set, with incurred and without
 pub written : (wrote 2 true (pos 90) (pos 660) (pos 1080) 144 ≡ 0) × (wrote 2 false (pos 90) (pos 660) (pos 1080) 96 ≡ 0)

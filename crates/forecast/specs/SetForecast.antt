@@ -1,18 +1,21 @@
--- The forecast of a set: from what is prepared of it, and from the set alone.
+-- The forecast of a set: from what is prepared of it, and from the set, with the delays from either
+-- side.
 use Prim.Native.Nat.{ℕ, _^_, _≤_}
 use mathlib.Core.Path.{_≡_}
-use mathlib.Core.List.{List}
+use mathlib.Core.Bool.{Bool, cond}
+use mathlib.Core.List.{List, _++_}
 use lib.IntN.{ℤ}
 use Rattle.model.specs.Delays.{delaysOf}
 use Rattle.model.specs.RowBases.{leftovers}
 use Rattle.model.specs.Cells.{outputFrom}
-use Rattle.model.specs.Questions.{firstNo, ofMethod, ofForecast}
+use Rattle.model.specs.Questions.{Question, firstNo, ofShares, ofMethod, ofForecast}
 use Rattle.model.specs.Calls.{ifAccepted}
 use Rattle.model.specs.Lent.{triangleIn}
 use Rattle.model.specs.declared.TriangleSet.{TriangleSet}
 use Rattle.chain_ladder.specs.Sums.{Small}
 use Rattle.chain_ladder.specs.Valid.{Amounts}
 use Rattle.chain_ladder.specs.Developed.{Ladder}
+use Rattle.delays.specs.Prepared.{asksDelays}
 use Rattle.row_bases.specs.Method.{Asked}
 use Rattle.cells.specs.Weights.{Delays}
 
@@ -23,6 +26,15 @@ methodRefusal m s method = firstNo (ofMethod m s method)
 -- of the set: questions 9 to 14
 unfoldable pub setRefusal : ℕ → TriangleSet → ℕ → ℕ
 setRefusal m s method = firstNo (ofForecast m s (delaysOf m s) method)
+
+-- the questions of the set with the delays from either side: the lent ones where they are given,
+-- else those solved here
+unfoldable pub ofEither : ℕ → TriangleSet → Bool → List ℤ → ℕ → List Question
+ofEither m s given lent method = ofShares m (s .counts) (s .paid) ++ asksDelays m (s .counts) (s .paid) given lent ++ ofMethod m s method
+
+-- the delays that its forecast goes by
+unfoldable pub eitherDelays : ℕ → TriangleSet → Bool → List ℤ → List ℤ
+eitherDelays m s given lent = cond given lent (delaysOf m s)
 
 -- the forecast of the set s with the delays p: its refusal number n, the leftovers and the output
 -- before and after; beside a refusal both are as they were

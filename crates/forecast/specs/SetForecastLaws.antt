@@ -1,24 +1,26 @@
 -- Laws of the forecast of a set: what is prepared gives the row bases and the cells what they ask,
 -- and these give the answer. Assumes nothing.
 use mathlib.Core.Path.{_≡_, refl, sym, _∙_, ap}
-use mathlib.Core.Bool.{Bool, true}
-use mathlib.Core.List.{List, _++_}
+use mathlib.Core.Bool.{Bool, true, false, _&&_}
+use mathlib.Core.List.{List, [], _++_}
 use Prim.Native.Nat.{ℕ, suc, _-_, _*_, _^_, _≤_, _<_}
 use native.Mathlib.Omega.{arith}
 use borrow.Author.Tests.{ltb-true, ltb-false}
-use lib.Dec.{ltb}
+use lib.Dec.{ltb, eqb}
 use lib.IntN.{ℤ, pos, negℤ, natAbs}
+use lib.ListN.{length}
 use Rattle.integers.specs.Order.{natAbs-≤}
-use Rattle.model.specs.Lists.{at, listed}
-use Rattle.model.specs.ListsLaws.{getD-listed, every-at}
+use Rattle.model.specs.Lists.{at, listed, every}
+use Rattle.model.specs.ListsLaws.{getD-listed, getD-listed-past, every-at, and-left, and-right}
 use Rattle.model.specs.Overlay.{overlay}
 use Rattle.model.specs.Shares.{gList, bList}
-use Rattle.model.specs.Delays.{delays, delaysOf}
+use Rattle.model.specs.Delays.{delays, delaysOf, solvesAt}
 use Rattle.model.specs.RowBases.{rowBase}
 use Rattle.model.specs.Cells.{sList, rbns, ibnr, outputFrom}
+use Rattle.model.specs.CellsLaws.{same-output}
 use Rattle.model.specs.PaidReserve.{NearReserves}
-use Rattle.paid_reserve.specs.Demand3.{demand-3}
-use Rattle.model.specs.Questions.{within, q6, q12, ofShares, ofDelays, ofMethod, ofForecast}
+use Rattle.paid_reserve.specs.Demand3.{own-solve, demand-3}
+use Rattle.model.specs.Questions.{Question, within, q6, q12, q20, firstNo, ofShares, ofDelays, ofGivenDelays, ofMethod, ofForecast}
 use Rattle.model.specs.QuestionsLaws.{within-so, numbered, stage-no, stage-yes, stages-so}
 use Rattle.model.specs.Tests.{by-test}
 use Rattle.model.specs.declared.TriangleSet.{TriangleSet}
@@ -30,9 +32,10 @@ use Rattle.chain_ladder.specs.LadderLaws.{ladder-shares}
 use Rattle.model.specs.Lent.{lentSet, triangleIn}
 use Rattle.model.specs.CallsLaws.{if-accepted}
 use Rattle.chain_ladder.specs.Valid.{Valid, counts-of, paid-of, incurred-small}
-use Rattle.delays.specs.DelaysLaws.{delay-past}
-use Rattle.delays.specs.Prepared.{preparedRefusal, Prepared}
-use Rattle.delays.specs.PreparedLaws.{prepared-so}
+use Rattle.delays.specs.DelaysLaws.{Solves, delay-past, solves-so}
+use Rattle.delays.specs.Solved.{placed}
+use Rattle.delays.specs.Prepared.{pairDelays, asksDelays, delaysFrom, refusalFrom, preparedRefusal, PreparedBy}
+use Rattle.delays.specs.PreparedLaws.{prepared-so, given-so}
 use Rattle.row_bases.specs.Method.{Asked, Based, rowBases}
 use Rattle.row_bases.specs.MethodLaws.{method-asked, six-known, six-incurred, bases-small}
 use Rattle.cells.specs.CellOf.{sumsFrom, cellOf, yearsEntries}
@@ -42,7 +45,7 @@ use Rattle.cells.specs.Ready.{Ready, yearWeights}
 use Rattle.cells.specs.ReadyLaws as ReadyLaws
 use Rattle.cells.specs.ReadyLaws.{g-at, latest-at, shares-fit}
 use Rattle.cells.specs.YearsLaws.{cell-is, output-is}
-use Rattle.forecast.specs.SetForecast.{Answered, methodRefusal, setRefusal, InRange, Given}
+use Rattle.forecast.specs.SetForecast.{Answered, methodRefusal, setRefusal, ofEither, eitherDelays, InRange, Given}
 
 -- ---- a set that passed questions 1, 5, 6 and 9 to 14, with delays p in range
 module _ (m : ℕ) (s : TriangleSet) (method : ℕ) (asked : Asked m (s .counts) (s .paid) (s .incurred) method) (passed : methodRefusal m s method ≡ 0) (p : List ℤ) (small : Delays p) where
@@ -128,72 +131,124 @@ module _ {m : ℕ} {set : List ℤ} {method : ℕ} {cl cg dl dg p : List ℤ} (g
       rw (b-list, given .counts .g-is, given .counts .latest-is, based .bases z) (set-cell m given-set method (given .asked) passes p (given .delays) basis i j h l k)
 
 -- ---- from the set
--- delays that pass question 12, and zeros behind them
-delays-small : (m : ℕ) (s : TriangleSet) → q12 m (delaysOf m s) ≡ true → Delays (delaysOf m s)
-unfolding q12 delaysOf delays
-delays-small m s in-range l h =
+
+-- delays in a list of 20 that the cells can go by: each place is in range
+in-places : (m : ℕ) (p made : List ℤ) → q12 m p ≡ true → ((l : ℕ) → l < m → l < 20 → at made l ≡ at p l) → ((l : ℕ) → m ≤ l → l < 20 → at made l ≡ pos 0) → Delays made
+unfolding q12
+in-places m p made in-range here past l h =
     by-test (ltb l m)
-    (λ e. let w = within-so _ _ (at (delaysOf m s) l) (every-at (λ l. within (negℤ (pos (8 * 10 ^ 9))) (pos (8 * 10 ^ 9)) (at (delaysOf m s) l)) m l in-range (ltb-true l m e)) in
-    natAbs-≤ .1 (w .1, w .0))
-    (λ e. rw (delay-past (bList m (s .counts)) (bList m (s .paid)) m l (ltb-false l m e) h) (omega arith))
+    (λ e. let w = within-so _ _ (at p l) (every-at (λ l. within (negℤ (pos (8 * 10 ^ 9))) (pos (8 * 10 ^ 9)) (at p l)) m l in-range (ltb-true l m e)) in
+    rw (here l (ltb-true l m e) h) (natAbs-≤ .1 (w .1, w .0)))
+    (λ e. rw (past l (ltb-false l m e) h) (omega arith))
+
+module _ (m : ℕ) (c d : List ℤ) where
+  -- those solved here, and zeros behind them
+  pub solved-range : preparedRefusal m c d ≡ 0 → Delays (pairDelays m c d)
+  unfolding delays
+  solved-range z = in-places m (pairDelays m c d) (pairDelays m c d) (prepared-so m c d z .1) (λ l h k. refl) (λ l h k. delay-past (bList m c) (bList m d) m l h k)
+
+  -- from either side
+  pub either-range : (given : Bool) (lent : List ℤ) → refusalFrom m c d given lent ≡ 0 → Delays (delaysFrom m c d given lent)
+  unfolding delaysFrom q20 preparedRefusal refusalFrom asksDelays
+  either-range true lent z =
+      in-places m lent (placed m lent) (and-right (eqb (length lent) m) (q12 m lent) (and-left (eqb (length lent) m && q12 m lent) _ (given-so m c d lent z)))
+      (λ l h k. getD-listed 20 m (at lent) (pos 0) l (pos 0) k h) (λ l h k. getD-listed-past 20 m (at lent) (pos 0) l (pos 0) k h)
+  either-range false lent z = solved-range z
+
+-- they solve the system, and make the output of what stands in the list of 20
+module _ (m : ℕ) (s : TriangleSet) (shared : Shared m (s .counts) (s .paid)) where
+  pub either-solve : (given : Bool) (lent : List ℤ) → refusalFrom m (s .counts) (s .paid) given lent ≡ 0
+      → Solves m (bList m (s .counts)) (bList m (s .paid)) (eitherDelays m s given lent)
+  unfolding eitherDelays q20
+  either-solve true lent z =
+      solves-so m (bList m (s .counts)) (bList m (s .paid)) lent
+      (and-right (eqb (length lent) m && q12 m lent) (every m (solvesAt (bList m (s .counts)) (bList m (s .paid)) lent)) (given-so m (s .counts) (s .paid) lent z))
+  either-solve false lent z = own-solve m s shared
+
+  pub either-output : (given : Bool) (lent : List ℤ) (method basis : ℕ) (before : List ℤ)
+      → outputFrom m s (delaysFrom m (s .counts) (s .paid) given lent) method basis before ≡ outputFrom m s (eitherDelays m s given lent) method basis before
+  unfolding delaysFrom eitherDelays delaysOf
+  either-output true lent method basis before =
+      same-output m (placed m lent) lent (λ k h. getD-listed 20 m (at lent) (pos 0) k (pos 0) (omega (arith, shared .counts .small .few)) h) s method basis before
+  either-output false lent method basis before = refl
 
 module _ (m : ℕ) (s : TriangleSet) (method : ℕ) where
+  -- the refusal: questions 9 to 11 and 20 or 12, then 13 and 14
+  module _ (given : Bool) (lent : List ℤ) where
+    abbrev asked : List Question
+    asked = ofShares m (s .counts) (s .paid) ++ asksDelays m (s .counts) (s .paid) given lent
+
+    asked-numbered : numbered asked ≡ true
+    unfolding ofShares asksDelays ofDelays ofGivenDelays numbered
+    asked-numbered = by-test given (λ e. rw e) (λ e. rw e)
+
+    pub by-either : (refusalFrom m (s .counts) (s .paid) given lent ≡ 0 → ⊥) → firstNo (ofEither m s given lent method) ≡ refusalFrom m (s .counts) (s .paid) given lent
+    unfolding ofEither refusalFrom ofShares
+    by-either = stage-no asked (ofMethod m s method) asked-numbered
+
+    pub after-either : refusalFrom m (s .counts) (s .paid) given lent ≡ 0 → firstNo (ofEither m s given lent method) ≡ methodRefusal m s method
+    unfolding ofEither methodRefusal refusalFrom ofShares
+    after-either = stage-yes asked (ofMethod m s method) asked-numbered
+
+    either-so : firstNo (ofEither m s given lent method) ≡ 0 → (refusalFrom m (s .counts) (s .paid) given lent ≡ 0) × (methodRefusal m s method ≡ 0)
+    unfolding ofEither methodRefusal refusalFrom ofShares
+    either-so = stages-so asked (ofMethod m s method) asked-numbered
+
+  -- with the delays solved here
   abbrev pair : ℕ
   pair = preparedRefusal m (s .counts) (s .paid)
 
-  -- the refusal: questions 9 to 12, then 13 and 14
   pub by-pair : (pair ≡ 0 → ⊥) → setRefusal m s method ≡ pair
-  unfolding setRefusal ofForecast preparedRefusal ofShares ofDelays numbered delaysOf
-  by-pair = stage-no (ofShares m (s .counts) (s .paid) ++ ofDelays m (delaysOf m s)) (ofMethod m s method) refl
+  unfolding setRefusal ofForecast preparedRefusal delaysOf ofEither refusalFrom asksDelays
+  by-pair = by-either false []
 
   pub by-method : pair ≡ 0 → setRefusal m s method ≡ methodRefusal m s method
-  unfolding setRefusal methodRefusal ofForecast preparedRefusal ofShares ofDelays numbered delaysOf
-  by-method = stage-yes (ofShares m (s .counts) (s .paid) ++ ofDelays m (delaysOf m s)) (ofMethod m s method) refl
+  unfolding setRefusal ofForecast preparedRefusal delaysOf ofEither refusalFrom asksDelays
+  by-method = after-either false []
 
   pub set-so : setRefusal m s method ≡ 0 → (pair ≡ 0) × (methodRefusal m s method ≡ 0)
-  unfolding setRefusal methodRefusal ofForecast preparedRefusal ofShares ofDelays numbered delaysOf
-  set-so = stages-so (ofShares m (s .counts) (s .paid) ++ ofDelays m (delaysOf m s)) (ofMethod m s method) refl
+  unfolding setRefusal ofForecast preparedRefusal delaysOf ofEither refusalFrom asksDelays
+  set-so = either-so false []
 
   module _ (valid : Valid m s) where
-    pub set-shared : pair ≡ 0 → Shared m (s .counts) (s .paid)
+    set-shared : pair ≡ 0 → Shared m (s .counts) (s .paid)
     set-shared z = shared-set m s valid (prepared-so m (s .counts) (s .paid) z .0)
 
     pub set-delays : pair ≡ 0 → Delays (delaysOf m s)
     unfolding delaysOf
-    set-delays z = delays-small m s (prepared-so m (s .counts) (s .paid) z .1)
+    set-delays = solved-range m (s .counts) (s .paid)
 
     module _ (basis : ℕ) (six : q6 (s .«has_incurred») method basis ≡ true) where
       pub set-asked : pair ≡ 0 → Asked m (s .counts) (s .paid) (s .incurred) method
       set-asked z = method-asked m s method basis valid (set-shared z) six
 
--- what `prepare` made of a lent set
-module _ {m : ℕ} {set : List ℤ} {method : ℕ} (ok : InRange m set method) {n : ℕ} {cl cg dl dg before p : List ℤ}
-    (made : Prepared m set n cl cg dl dg before p) (z : n ≡ 0) where
-  pub lent-passed : preparedRefusal m (triangleIn 0 set) (triangleIn 1 set) ≡ 0
-  lent-passed = sym (made .refusal) ∙ z
+-- what was prepared of a lent set
+module _ {m : ℕ} {set : List ℤ} {number n : ℕ} {made cl cg dl dg before p : List ℤ} (by : PreparedBy m set number made n cl cg dl dg before p) (z : n ≡ 0) where
+  pub lent-passed : number ≡ 0
+  lent-passed = sym (by .refusal) ∙ z
 
-  pub lent-shared : Shared m (triangleIn 0 set) (triangleIn 1 set)
-  lent-shared = record { counts = ok .counts; paid = ok .paid; asked = prepared-so m (triangleIn 0 set) (triangleIn 1 set) lent-passed .0 }
+  pub lent-delays : p ≡ made
+  lent-delays = by .delays-are ∙ if-accepted _ _ _ z
 
-  pub lent-delays : (has : Bool) → p ≡ delaysOf m (lentSet has set)
-  unfolding delaysOf
-  lent-delays has = made .delays-are ∙ if-accepted _ _ _ z
+  module _ {method : ℕ} (ok : InRange m set method) (asked : number ≡ 0 → firstNo (ofShares m (triangleIn 0 set) (triangleIn 1 set)) ≡ 0) where
+    pub lent-shared : Shared m (triangleIn 0 set) (triangleIn 1 set)
+    lent-shared = record { counts = ok .counts; paid = ok .paid; asked = asked lent-passed }
 
-  pub is-given : Given m set method cl cg dl dg p
-  unfolding delaysOf
-  is-given = record {
-    asked = record { shared = lent-shared; known = ok .known; incurred = ok .incurred };
-    counts = made .counts z;
-    paid = made .paid z;
-    delays = rw (lent-delays true) (delays-small m (lentSet true set) (prepared-so m (triangleIn 0 set) (triangleIn 1 set) lent-passed .1));
-  }
+    pub is-given : (number ≡ 0 → Delays made) → Given m set method cl cg dl dg p
+    is-given range = record {
+      asked = record { shared = lent-shared; known = ok .known; incurred = ok .incurred };
+      counts = by .counts z;
+      paid = by .paid z;
+      delays = rw lent-delays (range lent-passed);
+    }
 
--- demand 3, of a set that passed
-pub near : {number m : ℕ} {s : TriangleSet} {method basis n : ℕ} {left lefts before after : List ℤ} → Shared m (s .counts) (s .paid)
-    → Answered number m s (delaysOf m s) method basis n left lefts before after → n ≡ 0 → method ≡ 0 → basis ≡ 1 → NearReserves m (s .paid) after
-near {m = m} {s = s} {before = before} {after = after} h a z dcl estimated =
-    let plain : after ≡ outputFrom m s (delaysOf m s) 0 1 before = a .output ∙ rw (z, dcl, estimated) in
-    rw plain (demand-3 m s before h)
+-- demand 3, of a set that passed, with any delays that solve its system
+pub near : {number m : ℕ} {s : TriangleSet} {method basis n : ℕ} {p left lefts before after : List ℤ} → Shared m (s .counts) (s .paid)
+    → Answered number m s p method basis n left lefts before after → (n ≡ 0 → Solves m (bList m (s .counts)) (bList m (s .paid)) p)
+    → n ≡ 0 → method ≡ 0 → basis ≡ 1 → NearReserves m (s .paid) after
+near {m = m} {s = s} {p = p} {before = before} {after = after} h a solves z dcl estimated =
+    let plain : after ≡ outputFrom m s p 0 1 before = a .output ∙ rw (z, dcl, estimated) in
+    rw plain (demand-3 m s h p before (solves z))
 
 -- a valid set and a method that question 6 knows
 pub in-range : (m : ℕ) (has : Bool) (set : List ℤ) (method basis : ℕ) → Valid m (lentSet has set) → q6 has method basis ≡ true → InRange m set method

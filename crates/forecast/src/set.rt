@@ -1,4 +1,4 @@
-// The forecast of a set: questions 9 to 14.
+// The forecast of a set: questions 9 to 14, or 20 in place of 12.
 use cells::years::cell_forecast;
 use chain_ladder::ladder::shares_of;
 ghost use mathlib.Core.Path.{_≡_};
@@ -7,9 +7,10 @@ ghost use Prim.Native.Nat.{_≤_};
 ghost use lib.ListN.{length};
 ghost use Rattle.model.specs.Delays.{delaysOf};
 ghost use Rattle.model.specs.Cells.{size};
+ghost use Rattle.model.specs.Questions.{firstNo};
 ghost use Rattle.model.specs.PaidReserve.{NearReserves};
 ghost use Rattle.model.specs.Lent.{lentSet, triangleIn};
-ghost use Rattle.forecast.specs.SetForecast.{InRange, Given, Answered, methodRefusal, setRefusal};
+ghost use Rattle.forecast.specs.SetForecast.{InRange, Given, Answered, methodRefusal, setRefusal, ofEither, eitherDelays};
 
 // The forecast of a set from what is prepared of it: questions 13 and 14, the leftovers, and the
 // cells at the front of the output. Several methods can share what is prepared, and its delays may
@@ -40,18 +41,21 @@ pub fn forecast_prepared<'a>(
     0
 }
 
-// The forecast of a set: questions 9 to 14, the leftovers, and the cells at the front of the
-// output; demand 3 among its promises. A refusal leaves the lent memory as it was.
-pub fn forecast_set(
+// The forecast of a set with the delays from either side: the lent ones where they are `given`,
+// else those solved here. Questions 9 to 11, 20 or 12, 13 and 14, the leftovers, and the cells at
+// the front of the output; demand 3 among its promises. A refusal leaves the lent memory as it was.
+pub fn forecast_either(
     set: &[i64; 1200],
     m: usize,
     method: u64,
     basis: u64,
+    given: bool,
+    lent: &[i64],
     leftovers: &mut [i64; 20],
     out: &mut [i64],
 ) -> u64
     requires { ⌜ InRange m (now set) method × (size m ≤ length (now out)) ⌝ }
-    ensures { λ r. ⌜ ((has : Bool) → let s = lentSet has (now (set .entry)) in Answered (setRefusal m s method) m s (delaysOf m s) method basis r (now (leftovers .entry)) (now (leftovers .exit)) (now (out .entry)) (now (out .exit))) ⌝ }
+    ensures { λ r. ⌜ ((has : Bool) → let s = lentSet has (now (set .entry)) in Answered (firstNo (ofEither m s given (now (lent .entry)) method)) m s (eitherDelays m s given (now (lent .entry))) method basis r (now (leftovers .entry)) (now (leftovers .exit)) (now (out .entry)) (now (out .exit))) ⌝ }
     ensures { λ r. ⌜ (r ≡ 0 → method ≡ 0 → basis ≡ 1 → NearReserves m (triangleIn 1 (now (set .entry))) (now (out .exit))) ⌝ }
 {
     let mut count_latest = [0i64; 20];
@@ -59,9 +63,11 @@ pub fn forecast_set(
     let mut paid_latest = [0i64; 20];
     let mut paid_g = [0i64; 20];
     let mut p = [0i64; 20];
-    let refusal = delays::prepare(
+    let refusal = delays::prepare_from(
         set,
         m,
+        given,
+        lent,
         &mut count_latest,
         &mut count_g,
         &mut paid_latest,
@@ -84,4 +90,21 @@ pub fn forecast_set(
         leftovers,
         out,
     )
+}
+
+// The same with the delays solved here: questions 9 to 14.
+pub fn forecast_set(
+    set: &[i64; 1200],
+    m: usize,
+    method: u64,
+    basis: u64,
+    leftovers: &mut [i64; 20],
+    out: &mut [i64],
+) -> u64
+    requires { ⌜ InRange m (now set) method × (size m ≤ length (now out)) ⌝ }
+    ensures { λ r. ⌜ ((has : Bool) → let s = lentSet has (now (set .entry)) in Answered (setRefusal m s method) m s (delaysOf m s) method basis r (now (leftovers .entry)) (now (leftovers .exit)) (now (out .entry)) (now (out .exit))) ⌝ }
+    ensures { λ r. ⌜ (r ≡ 0 → method ≡ 0 → basis ≡ 1 → NearReserves m (triangleIn 1 (now (set .entry))) (now (out .exit))) ⌝ }
+{
+    let none = [0i64; 1];
+    forecast_either(set, m, method, basis, false, &none, leftovers, out)
 }

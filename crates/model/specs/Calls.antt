@@ -20,7 +20,7 @@ use Rattle.model.specs.Page.{pageText}
 use Rattle.model.specs.ClaimCosts.{claimCosts, noClaimCosts}
 use Rattle.model.specs.Cash.{cashIn}
 use Rattle.model.specs.BackTest.{cutTo, gap, cellNumber, cellwise, yearwise, overall}
-use Rattle.model.specs.Questions.{Question, firstNo, ofFile, ofShares, ofDelays, ofForecast, q1, q5Writer, q6, q7, q7Writer, q8, q15, q19}
+use Rattle.model.specs.Questions.{Question, firstNo, ofFile, ofShares, ofDelays, ofGivenDelays, ofForecast, ofForecastWith, q1, q5Writer, q6, q7, q7Writer, q8, q15, q19}
 use Rattle.model.specs.declared.TriangleSet.{TriangleSet}
 use Rattle.model.specs.declared.ReadAnswer.{ReadAnswer}
 use Rattle.model.specs.declared.SharesAnswer.{SharesAnswer}
@@ -109,6 +109,13 @@ refusedDelays n = record { refusal = n; p = zeros 20 }
 unfoldable pub delaysAnswer : ℕ → List ℕ → DelaysAnswer
 delaysAnswer m f = let n = delaysRefusal m f in ifAccepted n (acceptedDelays (delaysOf m (setOf m f))) (refusedDelays n)
 
+-- ---- given delays (02, Job 6): the same questions, 20 in place of 12
+
+unfoldable pub checkDelaysRefusal : ℕ → List ℕ → List ℤ → ℕ
+checkDelaysRefusal m f p =
+    let s = setOf m f in
+    callRefusal m f [] (ofShares m (s .counts) (s .paid) ++ ofGivenDelays m (s .counts) (s .paid) p)
+
 -- ---- the forecast: questions 1 to 14, without 8
 
 unfoldable pub forecastRefusal : ℕ → List ℕ → ℕ → ℕ → ℕ → ℕ
@@ -138,6 +145,29 @@ forecastOutput m f method basis before =
 pub record Forecasted (m : ℕ) (f : List ℕ) (method basis : ℕ) (before after : List ℤ) (a : ForecastAnswer) : Type 0 where
   pub result : a ≡ forecastAnswer m f method basis (length before)
   pub output : after ≡ forecastOutput m f method basis before
+  pub reserve : a .refusal ≡ 0 → method ≡ 0 → basis ≡ 1 → NearReserves m (setOf m f .paid) after
+
+-- ---- the forecast with given delays p (02, Job 6): as above, with p, and 20 in place of 12
+
+unfoldable pub forecastWithRefusal : ℕ → List ℕ → ℕ → ℕ → List ℤ → ℕ → ℕ
+forecastWithRefusal m f method basis p room =
+    callRefusal m f ((6, q6 (hasIncurred m f) method basis) ∷ (7, q7 m room) ∷ []) (ofForecastWith m (setOf m f) p method)
+
+unfoldable pub forecastWithAnswer : ℕ → List ℕ → ℕ → ℕ → List ℤ → ℕ → ForecastAnswer
+forecastWithAnswer m f method basis p room =
+    let n = forecastWithRefusal m f method basis p room in
+    ifAccepted n (acceptedForecast (leftovers m (setOf m f) method)) (refusedForecast n)
+
+-- the output afterwards: a refusal leaves it as it was
+unfoldable pub forecastWithOutput : ℕ → List ℕ → ℕ → ℕ → List ℤ → List ℤ → List ℤ
+forecastWithOutput m f method basis p before =
+    ifAccepted (forecastWithRefusal m f method basis p (length before)) (outputFrom m (setOf m f) p method basis before) before
+
+-- What this forecast hands back and leaves in the output, and demand 3 for whatever accepted delays
+-- were given.
+pub record ForecastedWith (m : ℕ) (f : List ℕ) (method basis : ℕ) (p before after : List ℤ) (a : ForecastAnswer) : Type 0 where
+  pub result : a ≡ forecastWithAnswer m f method basis p (length before)
+  pub output : after ≡ forecastWithOutput m f method basis p before
   pub reserve : a .refusal ≡ 0 → method ≡ 0 → basis ≡ 1 → NearReserves m (setOf m f .paid) after
 
 -- ---- claim costs: the questions of the shares

@@ -1,16 +1,22 @@
--- Laws of Cells: how many entries there are, and where a cell stands in the output. Assumes
--- nothing.
-use mathlib.Core.Path.{_≡_, _∙_}
-use mathlib.Core.List.{List}
+-- Laws of Cells: how many entries there are, where a cell stands in the output, and which delays it
+-- is made of. Assumes nothing.
+use mathlib.Core.Path.{_≡_, _∙_, ap}
+use mathlib.Core.Bool.{Bool, cond, _&&_}
+use mathlib.Core.List.{List, _++_}
 use Prim.Native.Nat.{ℕ, _+_, _-_, _*_, _/_, _%_, _≤_, _<_}
 use native.Mathlib.Nat.{mul-assoc, mul-le-mul}
 use native.Mathlib.Omega.{arith}
+use borrow.Author.Tests.{ltb-true}
 use lib.Arith.{digits-div, digits-mod, digits-lt}
-use lib.IntN.{ℤ, pos}
+use lib.Dec.{leb, ltb}
+use lib.IntN.{ℤ, pos, _*ℤ_}
 use lib.ListN.{drop, List·getD-append}
+use Rattle.integers.specs.Sums.{sum-cong}
 use Rattle.model.specs.Lists.{at}
-use Rattle.model.specs.ListsLaws.{length-tabulate, getD-tabulate}
-use Rattle.model.specs.Cells.{placeOf, size, rbns, ibnr, entry, entries, outputFrom}
+use Rattle.model.specs.ListsLaws.{length-tabulate, getD-tabulate, tabulate-ext, and-right}
+use Rattle.model.specs.Tests.{by-test}
+use Rattle.model.specs.Shares.{bList}
+use Rattle.model.specs.Cells.{placeOf, yearOf, delayOf, size, sList, pairs, rbnsFrom, ibnrFrom, rbns, ibnr, entry, entries, outputFrom}
 use Rattle.model.specs.declared.TriangleSet.{TriangleSet}
 
 -- 1560 entries are room for every m
@@ -65,3 +71,29 @@ module _ (m i j : ℕ) (h : 1 ≤ i) (k : j < 2 * m - 1) where
 
     pub written-ibnr : at (outputFrom m s p method basis before) (placeOf m i j + 1) ≡ ibnr m s p method i j
     written-ibnr = written m s p method basis before (placeOf m i j + 1) (place-inside l) ∙ entry-ibnr s p method basis
+
+-- delays that agree at the places below m give the same output
+module _ (m : ℕ) (p p′ : List ℤ) (same : (k : ℕ) → k < m → at p k ≡ at p′ k) where
+  same-pairs : (j : ℕ) (ok : ℕ → Bool) (x : List ℤ) → pairs m j ok x p ≡ pairs m j ok x p′
+  unfolding pairs
+  same-pairs j ok x =
+      sum-cong m
+      (λ k _. by-test (ok k && leb k j && ltb (j - k) m) (λ t. rw t (ap (λ (y : ℤ). at x k *ℤ y) (same (j - k) (ltb-true (j - k) m (and-right (ok k && leb k j) (ltb (j - k) m) t))))) (λ t. rw t))
+
+  module _ (s : TriangleSet) (method basis : ℕ) where
+    same-rbns : (i j : ℕ) → rbns m s p method basis i j ≡ rbns m s p′ method basis i j
+    unfolding rbns rbnsFrom
+    same-rbns i j = rw (same-pairs j (λ k. leb k (m - i)) (sList m s basis i))
+
+    same-ibnr : (i j : ℕ) → ibnr m s p method i j ≡ ibnr m s p′ method i j
+    unfolding ibnr ibnrFrom
+    same-ibnr i j = rw (same-pairs j (λ k. ltb (m - i) k) (bList m (s .counts)))
+
+    same-entry : (e : ℕ) → entry m s p method basis e ≡ entry m s p′ method basis e
+    unfolding entry
+    same-entry e = rw (same-rbns (yearOf m e) (delayOf m e), same-ibnr (yearOf m e) (delayOf m e))
+
+    pub same-output : (before : List ℤ) → outputFrom m s p method basis before ≡ outputFrom m s p′ method basis before
+    unfolding outputFrom entries
+    same-output before =
+        ap (λ (l : List ℤ). l ++ drop (size m) before) (tabulate-ext (size m) (entry m s p method basis) (entry m s p′ method basis) (λ e _. same-entry e))

@@ -1,5 +1,5 @@
--- 01, Examples, with the values that 02, Job 4, gives: one table, held to the definitions of the
--- calls by computation.
+-- 01, Examples, with the values that 02, Job 4, gives: those marked (P) as one table, held to the
+-- definitions of the calls by computation. The others are in the crate `examples`.
 use Prim.Native.Nat.{ℕ, _+_, _*_, _-_, _^_}
 use mathlib.Core.Path.{_≡_, refl}
 use mathlib.Core.Bool.{Bool, true, false, _&&_}
@@ -182,16 +182,7 @@ table =
     ∷ row later (refusal 0 1) (pos 12)
     ∷ []
 
--- ---- the other examples
-
-unfoldable pub others : List Row
-others =
-    -- g(0) of counts below 10^6, and 10^6
-    row thousand (countG 0) (pos 999001) ∷ row thousand (refusal 0 1) (pos 11) ∷ row thousandLess sharesRefused (pos 0)
-    -- the back-test: its number of cells, the cell's forecast, and the three errors
-    ∷ row past (tested 1 0 1 0) (pos 1) ∷ row past (testedCell 1 0 1 2 1) (pos 440)
-    ∷ row past (tested 1 0 1 1) (pos 10) ∷ row past (tested 1 0 1 2) (pos 10) ∷ row past (tested 1 0 1 3) (pos 10)
-    ∷ []
+-- ---- the program
 
 -- what `closing` reads: "2 0 1", a newline, and K without incurred
 unfoldable pub asked : List ℕ
@@ -221,7 +212,7 @@ unfolding
     cutTo compared gap cellNumber cellwise yearGap yearwise overall
     q1 q2 q3 q4 q5 q6 q7 q8 q9 q10 q11 q12 q13 q14 kinds recordOk eachCell firstNo ofRecords ofFile ofShares ofDelays ofMethod ofForecast
     callRefusal readRefusal sharesRefusal sharesOf sharesAnswer delaysRefusal delaysAnswer forecastRefusal forecastAnswer forecastOutput backTestRefusal backTestOf backTestAnswer fileTally fileText closingOf closingText
-    bytes recordOf rowOf two K late later thousand thousandLess past out figures answer answerOf above below halved right table others asked printed
+    bytes recordOf rowOf two K late later thousand thousandLess past out figures answer answerOf above below halved right table asked printed
 opened = 0
 
 -- 2.5, 3.5, -2.5 and -3.5; 0.5 and -0.5; and below and above a half, 2.4 and -2.6
@@ -246,11 +237,3 @@ pub rbns-rounded :
     → rbnsFrom m (rowBase m (setOf m f) method i) (sList m (setOf m f) 1 i) (delaysOf m (setOf m f)) i j ≡ r (above m f (ofRBNS method i j)) (below m f (ofRBNS method i j))
 unfolding rbnsFrom sList above below
 rbns-rounded m f method i j = refl
-
-pub other-examples : T (right others)
-unfolding opened
-other-examples = tt
-
-pub closing-example : closingText asked ≡ printed
-unfolding opened
-closing-example = refl

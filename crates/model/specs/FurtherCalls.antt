@@ -2,7 +2,7 @@
 -- of an independent calculation with big numbers.
 use Prim.Native.Nat.{ℕ, _-_, _^_}
 use mathlib.Core.Path.{_≡_, refl}
-use mathlib.Core.Bool.{Bool, true, false}
+use mathlib.Core.Bool.{true, false}
 use mathlib.Core.List.{List, [], _∷_, _++_}
 use lib.IntN.{ℤ, pos}
 use lib.ListN.{replicate}
@@ -46,12 +46,9 @@ short = (refl, refl)
 abbrev given : ℤ → ℤ → ℤ → List ℤ
 given x y z = lentCells (less (2 ^ 63)) x y z
 
--- the output of K's triangles, of n bytes
-abbrev output : Bool → ℕ → List ℕ
-output there n = writeOutput 2 there (given (pos 80) (pos 20) (pos 90)) (given (pos 600) (pos 400) (pos 660)) (given (pos 900) (pos 100) (pos 1080)) (replicate n 7)
-
--- 02, Job 2: by kind, year and delay, with incurred and without; the bytes past the file stay, and
--- so do all where there is room for all but one
-pub outputs : (output true 146 ≡ K ++ (7 ∷ 7 ∷ [])) × (output false 96 ≡ two 0 80 20 90 ++ two 1 600 400 660) × (output true 143 ≡ replicate 143 7)
+-- 02, Job 2: the file of K without incurred, by kind, year and delay
+pub written-order :
+    writeOutput 2 false (given (pos 80) (pos 20) (pos 90)) (given (pos 600) (pos 400) (pos 660)) (given (pos 900) (pos 100) (pos 1080)) (replicate 96 7)
+    ≡ two 0 80 20 90 ++ two 1 600 400 660
 unfolding opened-further
-outputs = (refl, refl, refl)
+written-order = refl

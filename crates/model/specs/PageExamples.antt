@@ -1,5 +1,6 @@
--- Examples of the closing page (02, Job 1). The figures are those of Examples, or of an independent
--- calculation with big numbers.
+-- Examples of the closing page (02, Job 1): a field, and what comes before 15. The pages themselves
+-- are held to the definition in the crate `examples`; their figures are those of Examples, or of an
+-- independent calculation with big numbers.
 use Prim.Native.Nat.{ℕ}
 use mathlib.Core.Path.{_≡_, refl}
 use mathlib.Core.List.{List, [], _∷_, _++_}
@@ -48,15 +49,10 @@ unfolding
     opened-further aligned columns heading pageLine pageText q15 pageRefusal filePage pageOutput printedHeading pageK lateFile pageLate
 opened-page = 0
 
--- into just the room that a page needs, and into two bytes more, which stay
-pub pages : (pageOutput 2 lateFile 0 1 (replicate 272 7) ≡ pageLate) × (pageOutput 2 K 0 1 (replicate 274 7) ≡ pageK ++ (7 ∷ 7 ∷ []))
+-- a field of 4 bytes
+pub field : aligned 4 (49 ∷ []) ≡ 32 ∷ 32 ∷ 32 ∷ 49 ∷ []
 unfolding opened-page
-pages = (refl, refl)
-
--- 15: room for all but one byte, which stay
-pub short-page : (pageRefusal 2 K 0 1 271 ≡ 15) × (pageOutput 2 K 0 1 (replicate 271 7) ≡ replicate 271 7)
-unfolding opened-page
-short-page = (refl, refl)
+field = refl
 
 -- 15 comes after 5 and 6, and before 9
 pub order :

@@ -8,7 +8,8 @@ use lib.ListN.{length}
 use lib.Signed.{leZ, ltZ}
 use Rattle.model.specs.Lists.{every, at}
 use Rattle.model.specs.Records.{inside, cell, kindAt, yearAt, delayAt, sparesZero, valueAt, records, copies, setLength, hasIncurred, inRange}
-use Rattle.model.specs.Shares.{latest, A, B, g}
+use Rattle.model.specs.Shares.{latest, A, B, g, bList}
+use Rattle.model.specs.Delays.{solvesAt}
 use Rattle.model.specs.RowBases.{rowBase}
 use Rattle.model.specs.Cells.{size}
 use Rattle.model.specs.Dates.{isDate, dayNumber}
@@ -118,6 +119,11 @@ q11 m t = leZ (pos (10 ^ 6)) (g m t 0)
 unfoldable pub q12 : ℕ → List ℤ → Bool
 q12 m p = every m (λ l. within (negℤ (pos (8 * 10 ^ 9))) (pos (8 * 10 ^ 9)) (at p l))
 
+-- 20 (02, Job 6), in place of 12 for given delays: they are m in number, each is within the range
+-- of 12, and together they solve each line of the system of the shares b of counts and q of paid
+unfoldable pub q20 : ℕ → List ℤ → List ℤ → List ℤ → Bool
+q20 m b q p = eqb (length p) m && q12 m p && every m (solvesAt b q p)
+
 -- 13, of incurred: A(j) and B(j) above zero, no latest row sum negative, g(j) from 10^6 to 4 × 10^9
 unfoldable pub q13 : ℕ → List ℤ → Bool
 q13 m t =
@@ -156,6 +162,10 @@ ofShares m c d = (9, q9 m c) ∷ (10, q10 m d) ∷ (11, q11 m c) ∷ (11, q11 m 
 unfoldable pub ofDelays : ℕ → List ℤ → List Question
 ofDelays m p = (12, q12 m p) ∷ []
 
+-- 20, of given delays p, with the shares of counts c and paid d
+unfoldable pub ofGivenDelays : ℕ → List ℤ → List ℤ → List ℤ → List Question
+ofGivenDelays m c d p = (20, q20 m (bList m c) (bList m d) p) ∷ []
+
 -- 13 and 14, of a set: asked under methods 1 and 2
 unfoldable pub ofMethod : ℕ → TriangleSet → ℕ → List Question
 ofMethod m s method = cond (usesIncurred method) ((13, q13 m (s .incurred)) ∷ (14, q14 m s method) ∷ []) []
@@ -163,3 +173,7 @@ ofMethod m s method = cond (usesIncurred method) ((13, q13 m (s .incurred)) ∷ 
 -- 9 to 14, of a set and its delays
 unfoldable pub ofForecast : ℕ → TriangleSet → List ℤ → ℕ → List Question
 ofForecast m s p method = ofShares m (s .counts) (s .paid) ++ ofDelays m p ++ ofMethod m s method
+
+-- the same of a set and given delays: 20 where 12 stood
+unfoldable pub ofForecastWith : ℕ → TriangleSet → List ℤ → ℕ → List Question
+ofForecastWith m s p method = ofShares m (s .counts) (s .paid) ++ ofGivenDelays m (s .counts) (s .paid) p ++ ofMethod m s method

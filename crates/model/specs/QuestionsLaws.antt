@@ -63,6 +63,13 @@ module _ (xs ys : List Question) (h : numbered xs ≡ true) where
       by-test (eqb (firstNo xs) 0) (λ t. let z = eqb-true (firstNo xs) 0 t in (z, sym (stage-yes z) ∙ e))
       (λ t. let o = eqb-false (firstNo xs) 0 t in absurd (o (sym (stage-no o) ∙ e)))
 
+-- a question that got a yes may have any number
+pub passed-over : (xs ys : List Question) (a b : ℕ) → firstNo (xs ++ ((a, true) ∷ ys)) ≡ firstNo (xs ++ ((b, true) ∷ ys))
+unfolding firstNo
+passed-over [] ys a b = refl
+passed-over ((n, true) ∷ xs) ys a b = passed-over xs ys a b
+passed-over ((n, false) ∷ xs) ys a b = refl
+
 -- those of a set that is to be forecast
 pub forecast-numbered : (m : ℕ) (s : TriangleSet) (p : List ℤ) (method : ℕ) → numbered (ofForecast m s p method) ≡ true
 unfolding numbered ofForecast ofShares ofDelays ofMethod

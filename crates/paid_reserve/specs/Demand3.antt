@@ -1,10 +1,10 @@
 -- Demand 3: the distance to the reserve of a set's forecast as it is written. Assumes nothing.
 use mathlib.Core.Path.{_≡_, sym, ap₂, subst}
 use mathlib.Core.List.{List}
-use Prim.Native.Nat.{ℕ, _≤_}
+use Prim.Native.Nat.{ℕ, _≤_, _<_}
 use native.Mathlib.Omega.{arith}
-use lib.IntN.{ℤ, pos, _+ℤ_}
-use Rattle.integers.specs.Parts.{_⩽_, _⋖_}
+use lib.IntN.{ℤ, _+ℤ_}
+use Rattle.integers.specs.Parts.{_⩽_}
 use Rattle.integers.specs.Sums.{sum-cong}
 use Rattle.model.specs.Lists.{at}
 use Rattle.model.specs.Rounding.{S}
@@ -40,22 +40,21 @@ module _ (m : ℕ) (lo : 2 ≤ m) (few : m ≤ 20) (s : TriangleSet) (before : L
     unfolding Shares.b
     b-S = rw (at-bList m (s .counts) few 0 (omega arith)) (g-range m (s .counts) counts 0 (omega arith) .1)
 
-    b-pos : pos 0 ⋖ at b 0
-    unfolding Shares.b
-    b-pos = rw (at-bList m (s .counts) few 0 (omega arith)) (counts .first)
-
-    -- for any delays that solve the system
-    pub near-any : (p : List ℤ) → Solves m b (bList m (s .paid)) p → NearReserves m (s .paid) (outputFrom m s p 0 1 before)
-    near-any p solves i h l =
+    near : (p : List ℤ) → Solves m b (bList m (s .paid)) p → NearReserves m (s .paid) (outputFrom m s p 0 1 before)
+    near p solves i h l =
         subst (λ (z : ℤ). AtMost (distance (whole z) (reserve m (s .paid) i)) (bound m (s .paid) i)) (sym (year-written p i h l))
         (any-delays m few (s .paid) paid i h l b p solves b-S)
 
-    -- for the delays solved here
-    pub near-solved : NearReserves m (s .paid) (outputFrom m s (delaysOf m s) 0 1 before)
-    unfolding delaysOf
-    near-solved = near-any (delaysOf m s) (solved b (bList m (s .paid)) m few b-pos)
+-- ---- of every set that passes questions 9 to 11
+module _ (m : ℕ) (s : TriangleSet) (h : Shared m (s .counts) (s .paid)) where
+  -- the delays solved here solve its system
+  pub own-solve : Solves m (bList m (s .counts)) (bList m (s .paid)) (delaysOf m s)
+  unfolding delaysOf Shares.b
+  own-solve =
+      let few = h .counts .small .few in
+      let some : 0 < m = (let l = h .counts .least in omega arith) in
+      solved (bList m (s .counts)) (bList m (s .paid)) m few (rw (at-bList m (s .counts) few 0 some) (counts-sound h .first))
 
--- ---- demand 3: of every set that passes questions 9 to 11, as its forecast under method 0,
--- basis 1 is written
-pub demand-3 : (m : ℕ) (s : TriangleSet) (before : List ℤ) → Shared m (s .counts) (s .paid) → NearReserves m (s .paid) (outputFrom m s (delaysOf m s) 0 1 before)
-demand-3 m s before h = near-solved m (h .counts .least) (h .counts .small .few) s before (counts-sound h) (paid-sound h)
+  -- demand 3, of its forecast under method 0, basis 1 as it is written, by any delays that solve it
+  pub demand-3 : (p before : List ℤ) → Solves m (bList m (s .counts)) (bList m (s .paid)) p → NearReserves m (s .paid) (outputFrom m s p 0 1 before)
+  demand-3 p before solves = near m (h .counts .least) (h .counts .small .few) s before (counts-sound h) (paid-sound h) p solves

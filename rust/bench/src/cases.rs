@@ -26,10 +26,11 @@ pub fn cases() -> Vec<Case> {
     for m in SIZES {
         let file = accepted_file(m).leak();
         cases.extend([read(file, m), write(file, m)]);
-        cases.extend([shares(file, m), delays(file, m)]);
+        cases.extend([shares(file, m), delays(file, m), check_delays(file, m)]);
         for method in 0..3 {
             cases.extend([0, 1].map(|basis| forecast(file, m, method, basis)));
         }
+        cases.push(forecast_with_delays(file, m));
         cases.extend([claim_costs(file, m), respond(file, m)]);
         cases.extend([closing_page(file, m), cash_in_window(file, m), replay(m)]);
         if m > 2 {
@@ -180,6 +181,32 @@ fn delays(file: &'static [u8], m: usize) -> Case {
     )
 }
 
+/// The delays of an accepted file, which stay in memory as it does.
+fn solved(file: &[u8], m: usize) -> &'static [i64] {
+    let p = plain::delays(file, m).expect("an accepted file");
+    p[..m].to_vec().leak()
+}
+
+fn check_delays(file: &'static [u8], m: usize) -> Case {
+    let delays = solved(file, m);
+    case(
+        "check delays",
+        m,
+        move || {
+            let (file, delays) = black_box((file, delays));
+            black_box(calls::check_delays(file, m, delays));
+        },
+        move || {
+            let (file, delays) = black_box((file, delays));
+            black_box(plain::check_delays(file, m, delays)).ok();
+        },
+        move || {
+            let (file, delays) = black_box((file, delays));
+            black_box(expert::check_delays(file, m, delays)).ok();
+        },
+    )
+}
+
 fn forecast(file: &'static [u8], m: usize, method: u64, basis: u64) -> Case {
     let [mut out, mut plain_out, mut expert_out] = [[0; 1_560]; 3];
     let mut leftovers = [0; 20];
@@ -204,6 +231,37 @@ fn forecast(file: &'static [u8], m: usize, method: u64, basis: u64) -> Case {
         move || {
             let file = black_box(file);
             black_box(expert::forecast(file, m, method, basis, &mut expert_out)).ok();
+        },
+    )
+}
+
+fn forecast_with_delays(file: &'static [u8], m: usize) -> Case {
+    let [mut out, mut plain_out, mut expert_out] = [[0; 1_560]; 3];
+    let (mut leftovers, delays) = ([0; 20], solved(file, m));
+    case(
+        "forecast with delays 0 1",
+        m,
+        move || {
+            let (file, delays) = black_box((file, delays));
+            black_box(calls::forecast_with_delays(
+                file,
+                m,
+                0,
+                1,
+                delays,
+                &mut out,
+                &mut leftovers,
+            ));
+        },
+        move || {
+            let (file, delays) = black_box((file, delays));
+            let found = plain::forecast_with_delays(file, m, 0, 1, delays, &mut plain_out);
+            black_box(found).ok();
+        },
+        move || {
+            let (file, delays) = black_box((file, delays));
+            let found = expert::forecast_with_delays(file, m, 0, 1, delays, &mut expert_out);
+            black_box(found).ok();
         },
     )
 }

@@ -3,13 +3,17 @@
 use bench::plain::{BackTest, ClaimCosts, Date, Inflation, JournalTally, Set, Shares};
 use bench::{expert, plain};
 use reference::cash::forecast_years;
+use reference::forecast::set_to_forecast;
 use reference::generate::{case, closing_input, journal_case, windows, writer_case, Case};
+use reference::given_delays::Estimated;
 use std::sync::OnceLock;
 
 const CASES: u64 = 3_000;
 
 type Answer<T> = Result<T, u64>;
 type Forecast = fn(&[u8], usize, u64, u64, &mut [i64]) -> Answer<[i64; 20]>;
+type CheckDelays = fn(&[u8], usize, &[i64]) -> Answer<()>;
+type ForecastWithDelays = fn(&[u8], usize, u64, u64, &[i64], &mut [i64]) -> Answer<[i64; 20]>;
 type ClosingPage = fn(&[u8], usize, u64, u64, &mut [u8]) -> Answer<()>;
 type CashInWindow = fn(&[u8], usize, u64, u64, &[Date; 3]) -> Answer<i64>;
 
@@ -20,7 +24,9 @@ struct Peer {
     write_set: fn(&Set, &mut [u8]) -> Answer<()>,
     shares: fn(&[u8], usize) -> Answer<Shares>,
     delays: fn(&[u8], usize) -> Answer<[i64; 20]>,
+    check_delays: CheckDelays,
     forecast: Forecast,
+    forecast_with_delays: ForecastWithDelays,
     claim_costs: fn(&[u8], usize) -> Answer<ClaimCosts>,
     back_test: fn(&[u8], usize, u64, u64, u64) -> Answer<BackTest>,
     respond: fn(&[u8], &mut [u8]) -> usize,
@@ -36,7 +42,9 @@ const PEERS: [Peer; 2] = [
         write_set: plain::write_set,
         shares: plain::shares,
         delays: plain::delays,
+        check_delays: plain::check_delays,
         forecast: plain::forecast,
+        forecast_with_delays: plain::forecast_with_delays,
         claim_costs: plain::claim_costs,
         back_test: plain::back_test,
         respond: plain::respond,
@@ -56,7 +64,9 @@ const PEERS: [Peer; 2] = [
         write_set: expert::write_set,
         shares: expert::shares,
         delays: expert::delays,
+        check_delays: expert::check_delays,
         forecast: expert::forecast,
+        forecast_with_delays: expert::forecast_with_delays,
         claim_costs: expert::claim_costs,
         back_test: expert::back_test,
         respond: expert::respond,
@@ -141,6 +151,39 @@ fn forecast() {
             "{text}"
         );
         assert_eq!(found, wanted.map(|wanted| wanted.leftovers), "{text}");
+    });
+}
+
+/// Delays of every kind.
+#[test]
+fn given_delays() {
+    each_case(|seed, case, peer, text| {
+        let (file, m, method, basis) = (&case.file[..], case.m, case.method, case.basis);
+        let checked = reference::read_set(file, m).and_then(Estimated::of);
+        let asked = set_to_forecast(file, m, method, basis, case.out_len).and_then(Estimated::of);
+        for (given, delays) in reference::generate::given_delays(seed, file, m) {
+            let text = format!("{text}, {given:?}: {delays:?}");
+            let wanted = match &checked {
+                Ok(of) => of.given(&delays).map(|_| ()),
+                Err(refusal) => Err(*refusal),
+            };
+            let found = (peer.check_delays)(file, m as usize, &delays);
+            assert_eq!(found, wanted, "{text}");
+            let wanted = match &asked {
+                Ok(of) => of.forecast(method, basis, &delays),
+                Err(refusal) => Err(*refusal),
+            };
+            let mut out = vec![7; case.out_len];
+            let call = peer.forecast_with_delays;
+            let found = call(file, m as usize, method, basis, &delays, &mut out);
+            let entries = wanted.as_ref().map_or(&[][..], |wanted| &wanted.entries);
+            assert_eq!(out[..entries.len()], *entries, "{text}");
+            assert!(
+                out[entries.len()..].iter().all(|&entry| entry == 7),
+                "{text}"
+            );
+            assert_eq!(found, wanted.map(|wanted| wanted.leftovers), "{text}");
+        }
     });
 }
 

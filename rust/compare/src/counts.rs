@@ -8,8 +8,9 @@ use std::collections::BTreeMap;
 pub struct Counts {
     /// How many cases each call accepted; of the answers to inputs, how many were each of the
     /// texts; of closing pages, how many cases each method and basis accepted and each refusal met;
-    /// of windows, how many of each span were accepted and each refusal met; of journals, how many
-    /// were made in each way and each refusal met.
+    /// of windows, how many of each span were accepted and each refusal met; of given delays, how
+    /// many cases accepted some of each kind and met each refusal; of journals, how many were made
+    /// in each way and each refusal met.
     pub accepted: BTreeMap<&'static str, u64>,
     /// The halves that the calculation met in each answer that is no refusal, by the shape of the
     /// seed's set.

@@ -96,6 +96,18 @@ pub fn cash_in_window(
     files::cash_in_window(seed, file, settings, window)
 }
 
+/// Compares `check_delays` and `forecast_with_delays` on any file, any m, method and basis, any
+/// delays, and an output of any length.
+pub fn forecast_with_delays(
+    seed: u64,
+    file: &[u8],
+    settings: [u64; 3],
+    delays: &[i64],
+    out_len: usize,
+) -> Result<(), Difference> {
+    files::forecast_with_delays(seed, file, settings, delays, out_len)
+}
+
 /// Compares `read_set` on any file and m.
 pub fn read_set(seed: u64, file: &[u8], m: u64) -> Result<(), Difference> {
     files::read_set(seed, file, m).map(|_| ())

@@ -1,7 +1,7 @@
 //! Every comparison on a few thousand generated cases.
 
 use compare::{Counts, COMPARISONS};
-use reference::generate::{Shape, Span};
+use reference::generate::{Given, Shape, Span};
 use reference::halves::{add, Halves, Kind, KINDS, OF_FORECASTS};
 
 const CASES: u64 = 3_000;
@@ -94,12 +94,44 @@ fn files() {
         ("cash refused 13", 20, 0),
         ("cash refused 14", 20, 0),
         ("cash refused 19", 1_500, 0),
+        ("check refused 1", 20, 0),
+        ("check refused 2", 20, 0),
+        ("check refused 3", 20, 0),
+        ("check refused 4", 20, 0),
+        ("check refused 5", 20, 0),
+        ("check refused 9", 20, 0),
+        ("check refused 10", 20, 0),
+        ("check refused 11", 20, 0),
+        ("check refused 20", 1_500, 0),
+        ("with delays refused 1", 20, 0),
+        ("with delays refused 2", 20, 0),
+        ("with delays refused 3", 20, 0),
+        ("with delays refused 4", 20, 0),
+        ("with delays refused 5", 20, 0),
+        ("with delays refused 6", 20, 0),
+        ("with delays refused 7", 20, 0),
+        ("with delays refused 9", 20, 0),
+        ("with delays refused 10", 20, 0),
+        ("with delays refused 11", 20, 0),
+        ("with delays refused 13", 20, 0),
+        ("with delays refused 14", 20, 0),
+        ("with delays refused 20", 1_500, 0),
+        ("delays, solved", 1_500, 500),
+        ("delays, other solution", 50, 0),
+        ("delays, one up", 5, 0),
+        ("delays, one down", 5, 0),
+        ("delays, clipped", 50, 0),
+        ("delays, 20 of them", 20, 0),
     ];
     let counts = the_same("files", &calls);
     for span in Span::ALL {
         let accepted = counts.accepted[span.name()];
         assert_eq!(accepted > 1_500, span.is_good(), "{}", span.name());
         assert_eq!(accepted == 0, !span.is_good(), "{}", span.name());
+    }
+    for given in Given::ALL {
+        let accepted = counts.accepted[given.name()];
+        assert!(given.can_stand() || accepted == 0, "{}", given.name());
     }
     met_halves(&counts, &KINDS[..OF_FORECASTS], [50, 10]);
     met_halves(&counts, &KINDS[OF_FORECASTS..], [10, 50]);

@@ -1,7 +1,7 @@
-//! Coverage-guided fuzzing of `respond`, `read_set`, `closing_page`, `cash_in_window` and `replay`
-//! with libFuzzer: each input is put to the library and to the independent calculation of
-//! `reference`, and the answers and the lent memory are compared bit for bit. New coverage is that
-//! of the calculation and of the library's own machine code.
+//! Coverage-guided fuzzing of `respond`, `read_set`, `closing_page`, `cash_in_window`,
+//! `forecast_with_delays` and `replay` with libFuzzer: each input is put to the library and to the
+//! independent calculation of `reference`, and the answers and the lent memory are compared bit for
+//! bit. New coverage is that of the calculation and of the library's own machine code.
 
 pub mod blocks;
 mod guarded;

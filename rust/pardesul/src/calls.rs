@@ -42,6 +42,13 @@ mod foreign {
             m: usize,
             p: *mut [i64; 20],
         ) -> u64;
+        pub fn pardesul_check_delays(
+            file: *const u8,
+            file_len: usize,
+            m: usize,
+            delays: *const i64,
+            number: usize,
+        ) -> u64;
         pub fn pardesul_claim_costs(
             file: *const u8,
             file_len: usize,
@@ -57,6 +64,18 @@ mod foreign {
             m: usize,
             method: u64,
             basis: u64,
+            out: *mut i64,
+            out_len: usize,
+            leftovers: *mut [i64; 20],
+        ) -> u64;
+        pub fn pardesul_forecast_with_delays(
+            file: *const u8,
+            file_len: usize,
+            m: usize,
+            method: u64,
+            basis: u64,
+            delays: *const i64,
+            number: usize,
             out: *mut i64,
             out_len: usize,
             leftovers: *mut [i64; 20],
@@ -220,6 +239,26 @@ pub fn delays(file: &[u8], m: usize, p: &mut [i64; 20]) -> u64 {
     unsafe { foreign::pardesul_delays(file.as_ptr(), file.len(), m, p) }
 }
 
+/// Whether delays from elsewhere, any number of them, are delays of the set.
+///
+/// ```
+/// use pardesul::calls::{check_delays, write_set};
+///
+/// // Each year has one claim, on which 1000 is paid at once and 1000 a year later.
+/// let mut file = [0; 96];
+/// let counts = std::array::from_fn(|place| [1, 0][place % 2]);
+/// assert_eq!(write_set(2, false, &counts, &[1_000; 400], &[0; 400], &mut file), 0);
+/// assert_eq!(check_delays(&file, 2, &[500_000_000, 500_000_000]), 0);
+/// assert_eq!(check_delays(&file, 2, &[500_000_000, 500_000_001]), 20);
+/// assert_eq!(check_delays(&file, 2, &[500_000_000]), 20);
+/// ```
+pub fn check_delays(file: &[u8], m: usize, delays: &[i64]) -> u64 {
+    // SAFETY: as above.
+    unsafe {
+        foreign::pardesul_check_delays(file.as_ptr(), file.len(), m, delays.as_ptr(), delays.len())
+    }
+}
+
 /// The claim costs: mu; f(j) of paid at place j - 1, and zeros in the other places; of year i's
 /// inflation at place i - 1 the kind, 0 the base year, 1 no payments yet, 2 a ratio, and the ratio,
 /// 0 where there is none. The kind is 1 in the other places.
@@ -273,6 +312,50 @@ pub fn forecast(
             m,
             method,
             basis,
+            out.as_mut_ptr(),
+            room,
+            leftovers,
+        )
+    }
+}
+
+/// The forecast with delays from elsewhere, any number of them, in place of those solved here; all
+/// else is as in [`forecast`].
+///
+/// ```
+/// use pardesul::calls::{forecast_with_delays, write_set};
+///
+/// // Each year has one claim, on which 1000 is paid at once and 1000 a year later.
+/// let (mut file, mut out, mut leftovers) = ([0; 96], [9; 12], [9; 20]);
+/// let counts = std::array::from_fn(|place| [1, 0][place % 2]);
+/// assert_eq!(write_set(2, false, &counts, &[1_000; 400], &[0; 400], &mut file), 0);
+/// let mut given = [500_000_000, 500_000_001];
+/// assert_eq!(forecast_with_delays(&file, 2, 0, 1, &given, &mut out, &mut leftovers), 20);
+/// assert_eq!((out, leftovers), ([9; 12], [9; 20]));
+/// given[1] = 500_000_000;
+/// assert_eq!(forecast_with_delays(&file, 2, 0, 1, &given, &mut out, &mut leftovers), 0);
+/// assert_eq!((&out[8..10], leftovers), (&[1_000, 0][..], [0; 20]));
+/// ```
+pub fn forecast_with_delays(
+    file: &[u8],
+    m: usize,
+    method: u64,
+    basis: u64,
+    delays: &[i64],
+    out: &mut [i64],
+    leftovers: &mut [i64; 20],
+) -> u64 {
+    let (len, number, room) = (file.len(), delays.len(), out.len());
+    // SAFETY: as above.
+    unsafe {
+        foreign::pardesul_forecast_with_delays(
+            file.as_ptr(),
+            len,
+            m,
+            method,
+            basis,
+            delays.as_ptr(),
+            number,
             out.as_mut_ptr(),
             room,
             leftovers,

@@ -72,6 +72,21 @@ pub struct Forecast {
 }
 
 impl Forecast {
+    /// What a call writes of m years: the entries and the leftovers.
+    pub(crate) fn written(
+        m: usize,
+        call: impl FnOnce(&mut [i64], &mut [i64; 20]) -> u64,
+    ) -> Result<Forecast, Refusal> {
+        let (mut entries, mut leftovers) = (vec![0; 1_560], [0; 20]);
+        Refusal::of(call(&mut entries, &mut leftovers))?;
+        entries.truncate(2 * m * (2 * m - 1));
+        Ok(Forecast {
+            m,
+            entries,
+            leftovers: leftovers[..m].to_vec(),
+        })
+    }
+
     /// Reported but not settled, of accident year `year` from 1 on at `delay` from 0 on.
     ///
     /// # Panics
@@ -124,20 +139,9 @@ impl Forecast {
 /// # Errors
 /// Refuses with 1 to 6 and 9 to 14.
 pub fn forecast(file: &[u8], m: usize, method: Method, basis: Basis) -> Result<Forecast, Refusal> {
-    let (mut entries, mut leftovers) = (vec![0; 1_560], [0; 20]);
-    Refusal::of(calls::forecast(
-        file,
-        m,
-        method as u64,
-        basis as u64,
-        &mut entries,
-        &mut leftovers,
-    ))?;
-    entries.truncate(2 * m * (2 * m - 1));
-    Ok(Forecast {
-        m,
-        entries,
-        leftovers: leftovers[..m].to_vec(),
+    let (method, basis) = (method as u64, basis as u64);
+    Forecast::written(m, |entries, leftovers| {
+        calls::forecast(file, m, method, basis, entries, leftovers)
     })
 }
 

@@ -57,9 +57,10 @@
 //! ```
 //!
 //! The other calls are [`shares`], [`delays`], [`claim_costs`], [`back_test`], [`Tally::add`],
-//! [`closing_page`], the forecast in columns, [`cash_in_window`], what falls due between two dates,
-//! [`replay`], the tally of a journal, and [`respond`], the text of the program `closing`.
-//! [`calls`] has the calls themselves, over memory that the caller lends.
+//! [`check_delays`] and [`forecast_with_delays`], for delays from elsewhere, [`closing_page`], the
+//! forecast in columns, [`cash_in_window`], what falls due between two dates, [`replay`], the tally
+//! of a journal, and [`respond`], the text of the program `closing`. [`calls`] has the calls
+//! themselves, over memory that the caller lends.
 //!
 //! The crate links `target/staticlib/libc_api.a` of its repository, which `rt staticlib c_api`
 //! writes.
@@ -73,6 +74,7 @@ mod claim_costs;
 mod closing;
 mod dates;
 mod forecast;
+mod given_delays;
 mod journal;
 mod page;
 mod refusal;
@@ -86,6 +88,7 @@ pub use claim_costs::{claim_costs, ClaimCosts, Inflation};
 pub use closing::respond;
 pub use dates::Date;
 pub use forecast::{forecast, Basis, Forecast, Method};
+pub use given_delays::{check_delays, forecast_with_delays};
 pub use journal::{replay, Journal, JournalTally};
 pub use page::closing_page;
 pub use refusal::Refusal;

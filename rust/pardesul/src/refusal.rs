@@ -5,7 +5,7 @@ use std::fmt;
 
 /// What is wrong where question n gets a no, at place n - 1. The header and README.md say the same,
 /// which a test holds.
-const MESSAGES: [&str; 19] = [
+const MESSAGES: [&str; 20] = [
     "m is not 2 to 20",
     "the length is not that of a set",
     "a record has a kind that the length does not allow, a cell outside the triangle, or a byte \
@@ -28,6 +28,8 @@ const MESSAGES: [&str; 19] = [
     "a calendar year is below the one before it, or a cell leaves its range",
     "a date is impossible, the valuation date is not of the years 1900 to 2199, or the window ends \
      before it starts or leaves the forecast years",
+    "the given delays are not m in number, one is outside -8 × 10^9 to 8 × 10^9, or a sum of \
+     b(k) × p(l-k), k from 0 to l, is more than b(0) / 2 away from 10^9 × q(l)",
 ];
 
 /// The first question that got a no: its number and what is wrong.
@@ -63,7 +65,7 @@ impl Refusal {
         }
     }
 
-    /// The question's number, 1 to 19.
+    /// The question's number, 1 to 20.
     pub fn number(self) -> u64 {
         self.0
     }

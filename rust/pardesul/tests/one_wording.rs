@@ -39,7 +39,7 @@ fn wanted() -> Vec<(u64, String)> {
 
 #[test]
 fn refusals_of_the_header() {
-    assert_eq!(wanted().len(), 19);
+    assert_eq!(wanted().len(), 20);
     assert_eq!(constants("PARDESUL_REFUSED_"), wanted());
 }
 

@@ -9,8 +9,8 @@ const HEAD: &str = "\
 ## Stack
 
 The most bytes of stack that each C call takes on sets of 20 years and on journals of 4,096
-transactions, over all its answers, methods, bases, cuts and windows (`rust/records/stack.c`), and
-what the header states, which a test holds.
+transactions, over all its answers, methods, bases, cuts, windows and given delays
+(`rust/records/stack.c`), and what the header states, which a test holds.
 
 | call | bytes, taken | stated |
 |---|---|---|

@@ -20,11 +20,15 @@ pub fn solve(b: &[Big], q: &[Big]) -> Vec<Big> {
 pub fn solved(estimates: &Estimates) -> Result<Vec<Big>, Refusal> {
     let p = solve(&estimates.b, &estimates.q);
     // Question 12.
-    let most = Big::from(8_000_000_000i64);
-    if p.iter().any(|delay| delay.abs() > most) {
+    if !p.iter().all(in_range) {
         return Err(12);
     }
     Ok(p)
+}
+
+/// Whether a delay is in question 12's range.
+pub fn in_range(delay: &Big) -> bool {
+    delay.abs() <= Big::from(8_000_000_000i64)
 }
 
 /// Questions 1 to 5 and 9 to 12, and the delays.

@@ -32,6 +32,30 @@ pub fn set_k_without_incurred() -> Set {
     K_WITHOUT_INCURRED.set()
 }
 
+/// A set with a half in its delays, p(0) = 2500002.5: with its even neighbour 2500002 p(1) is
+/// another half, 2493749994.5, and with the odd one p(1) = 2493749993.
+pub fn set_of_three_solutions() -> Set {
+    THREE_SOLUTIONS.set()
+}
+
+/// A set that question 12 refuses, and delays that question 20 accepts: p(0) = 3147826087.5, whose
+/// even neighbour leads to p(1) = -8000000003.
+pub fn set_of_other_solution() -> (Set, [i64; 3]) {
+    let given = [3_147_826_087, -8_000_000_000, 4_152_173_912];
+    (OTHER_SOLUTION.set(), given)
+}
+
+/// Sets with delays that solve their system and are refused for one alone, p(1), which is one past
+/// an end of question 12's range.
+pub fn sets_past_the_range() -> [(Set, [i64; 3]); 2] {
+    let below = [3_125_000_013, -8_000_000_001, 5_437_499_842];
+    let above = [624_999_988, 8_000_000_001, -4_312_499_851];
+    [
+        (BELOW_THE_RANGE.set(), below),
+        (ABOVE_THE_RANGE.set(), above),
+    ]
+}
+
 type Triangle = &'static [&'static [i64]];
 
 /// The triangles of an example.
@@ -135,6 +159,42 @@ const NOT_SO_THIN: Rows = Rows {
 const THREE_YEARS: Rows = Rows {
     counts: &[&[80, 20, 0], &[90, 25], &[100]],
     paid: &[&[600, 400, 50], &[660, 430], &[700]],
+    incurred: None,
+};
+
+const THREE_SOLUTIONS: Rows = Rows {
+    counts: &[&[2, 3], &[2]],
+    paid: &[&[1_000_001, 998_999_999], &[1_000_001]],
+    incurred: None,
+};
+
+const OTHER_SOLUTION: Rows = Rows {
+    counts: &[&[8, 23, 69], &[8, 23], &[8]],
+    paid: &[
+        &[251_826_087, 84_000_000, 664_173_913],
+        &[251_826_087, 84_000_000],
+        &[251_826_087],
+    ],
+    incurred: None,
+};
+
+const BELOW_THE_RANGE: Rows = Rows {
+    counts: &[&[8, 24, 68], &[8, 24], &[8]],
+    paid: &[
+        &[250_000_001, 110_000_003, 639_999_996],
+        &[250_000_001, 110_000_003],
+        &[250_000_001],
+    ],
+    incurred: None,
+};
+
+const ABOVE_THE_RANGE: Rows = Rows {
+    counts: &[&[8, 1, 91], &[8, 1], &[8]],
+    paid: &[
+        &[49_999_999, 646_250_000, 303_750_001],
+        &[49_999_999, 646_250_000],
+        &[49_999_999],
+    ],
     incurred: None,
 };
 

@@ -33,13 +33,25 @@ pub fn forecast(
     basis: u64,
     out_len: usize,
 ) -> Result<Forecast, Refusal> {
+    let set = set_to_forecast(file, m, method, basis, out_len)?;
+    forecast_set(&set, method, basis)
+}
+
+/// The set of a file that is to be forecast into so many entries: questions 1 to 7.
+pub fn set_to_forecast(
+    file: &[u8],
+    m: u64,
+    method: u64,
+    basis: u64,
+    out_len: usize,
+) -> Result<Set, Refusal> {
     let set = read_set(file, m)?;
     question_6(&set, method, basis)?;
     // Question 7.
     if out_len < entry_count(set.m) {
         return Err(7);
     }
-    forecast_set(&set, method, basis)
+    Ok(set)
 }
 
 /// Question 6.
@@ -53,17 +65,28 @@ pub fn question_6(set: &Set, method: u64, basis: u64) -> Result<(), Refusal> {
 
 /// The forecast of a set: questions 9 to 14.
 pub fn forecast_set(set: &Set, method: u64, basis: u64) -> Result<Forecast, Refusal> {
-    let m = set.m;
     let estimates = estimates(set)?;
     let p = solved(&estimates)?;
-    let bases = row_bases(set, &estimates, method)?;
+    forecast_by_delays(set, &estimates, &p, method, basis)
+}
+
+/// The forecast of an estimated set by m delays, whoever solved them: questions 13 and 14.
+pub fn forecast_by_delays(
+    set: &Set,
+    estimates: &Estimates,
+    p: &[Big],
+    method: u64,
+    basis: u64,
+) -> Result<Forecast, Refusal> {
+    let m = set.m;
+    let bases = row_bases(set, estimates, method)?;
     let mut entries = vec![0; entry_count(m)];
     for i in 1..=m {
         let v = &bases.v[i - 1];
-        let s = reported_shares(&estimates, i, basis);
+        let s = reported_shares(estimates, i, basis);
         for j in m - i + 1..=2 * m - 2 {
-            let rbns = cell_forecast(v, &s, &p, j, |k| k <= m - i);
-            let ibnr = cell_forecast(v, &estimates.b, &p, j, |k| k > m - i);
+            let rbns = cell_forecast(v, &s, p, j, |k| k <= m - i);
+            let ibnr = cell_forecast(v, &estimates.b, p, j, |k| k > m - i);
             entries[entry(m, i, j)] = signed_64(&rbns);
             entries[entry(m, i, j) + 1] = signed_64(&ibnr);
         }

@@ -5,7 +5,7 @@ use crate::forecast::{entry, entry_count, forecast};
 use crate::fraction::Fraction;
 use crate::records::{read_set, Refusal};
 use crate::rounding::scale;
-use crate::shares::{estimates, Triangle};
+use crate::shares::{estimates, Estimates, Triangle};
 
 /// Year i's distance and its bound, i + (i-1) × H / g.
 #[derive(Clone, Debug)]
@@ -38,30 +38,50 @@ pub fn exact_ultimate(paid: &Triangle, exact_shares: &[Fraction], i: usize) -> F
     upper.over(&exact_shares[paid.m() - i])
 }
 
-/// For a file accepted under method 0, basis 1, each year's distance, year i at place i - 1.
-/// A lower number that is not above zero breaks off the calculation.
-pub fn demand3(file: &[u8], m: u64) -> Result<Vec<ReserveDistance>, Refusal> {
-    let set = read_set(file, m)?;
-    let m = set.m;
-    let forecast = forecast(file, m as u64, 0, 1, entry_count(m))?;
-    let estimates = estimates(&set)?;
+/// What demand 3 holds a year's entries to: the unrounded reserve, and the bound.
+pub struct PaidReserve {
+    reserve: Fraction,
+    bound: Fraction,
+}
+
+/// Those of an estimated set, year i at place i - 1. A lower number that is not above zero breaks
+/// off the calculation.
+pub fn paid_reserves(estimates: &Estimates) -> Vec<PaidReserve> {
     let paid = &estimates.paid;
+    let m = paid.m();
     let exact_shares = exact_shares(paid);
     let year = |i: usize| {
-        let written = written_sum(&forecast.entries, m, i);
         let h = exact_ultimate(paid, &exact_shares, i);
-        let reserve = h.minus(&Fraction::whole(paid.latest(i)));
-        let distance = Fraction::whole(written).distance(&reserve);
         let g = Fraction::whole(estimates.g[m - i].clone());
         let per_unit = h.over(&g).times(&Fraction::whole(Big::from(i - 1)));
-        let bound = Fraction::whole(Big::from(i)).plus(&per_unit);
-        ReserveDistance {
-            within: distance.at_most(&bound),
-            distance,
-            bound,
+        PaidReserve {
+            reserve: h.minus(&Fraction::whole(paid.latest(i))),
+            bound: Fraction::whole(Big::from(i)).plus(&per_unit),
         }
     };
-    Ok((1..=m).map(year).collect())
+    (1..=m).map(year).collect()
+}
+
+/// Each year's distance in the entries of a forecast.
+pub fn distances(reserves: &[PaidReserve], entries: &[i64]) -> Vec<ReserveDistance> {
+    let year = |(reserve, i): (&PaidReserve, usize)| {
+        let written = written_sum(entries, reserves.len(), i);
+        let distance = Fraction::whole(written).distance(&reserve.reserve);
+        ReserveDistance {
+            within: distance.at_most(&reserve.bound),
+            distance,
+            bound: reserve.bound.clone(),
+        }
+    };
+    reserves.iter().zip(1..).map(year).collect()
+}
+
+/// For a file accepted under method 0, basis 1, each year's distance, year i at place i - 1.
+pub fn demand3(file: &[u8], m: u64) -> Result<Vec<ReserveDistance>, Refusal> {
+    let set = read_set(file, m)?;
+    let forecast = forecast(file, m, 0, 1, entry_count(set.m))?;
+    let reserves = paid_reserves(&estimates(&set)?);
+    Ok(distances(&reserves, &forecast.entries))
 }
 
 /// The sum of a year's entries, RBNS and IBNR, below delay m.

@@ -8,15 +8,17 @@ use native.Mathlib.Omega.{arith}
 use borrow.Author.Needs.{needs}
 use denote.Ref.{now}
 use lib.IntN.{ℤ}
+use Rattle.model.specs.Delays.{delaysOf}
 use Rattle.model.specs.Cells.{rbns, ibnr}
 use Rattle.model.specs.Calls.{refusedBackTest}
 use Rattle.model.specs.Lent.{lentSet, triangleIn}
 use Rattle.model.specs.declared.TriangleSet.{TriangleSet}
 use Rattle.chain_ladder.specs.DevelopedLaws.{counts-ready}
 use Rattle.chain_ladder.specs.LadderLaws.{ladder-ready}
+use Rattle.delays.specs.PreparedLaws.{prepared-so}
 use Rattle.cells.specs.Ready.{Ready}
 use Rattle.forecast.specs.SetForecast.{InRange, Given, methodRefusal, setRefusal}
-use Rattle.forecast.specs.SetForecastLaws.{by-pair, by-method, lent-passed, lent-delays, is-given, years-ready, years-cell}
+use Rattle.forecast.specs.SetForecastLaws.{by-pair, by-method, solved-range, lent-passed, lent-delays, is-given, years-ready, years-cell}
 use Rattle.back_test.specs.Gaps.{SmallGaps}
 use Rattle.back_test.specs.GapsLaws.{gaps-small}
 use Rattle.back_test.specs.SetTest.{setTest}
@@ -58,10 +60,12 @@ module _ (e : tie.Else1) where
   one = e .before
 
   given : Given (n (start one)) (now (start one .args .set)) (start one .args .method) (one .prepare .last .1 .1 .0) (one .prepare .last .1 .1 .1 .0) (one .prepare .last .1 .1 .1 .1 .0) (one .prepare .last .1 .1 .1 .1 .1 .0) (one .prepare .last .1 .1 .1 .1 .1 .1 .0)
-  given = is-given (ok (start one)) (one .prepare .ensures) (e .if1 .left)
+  given =
+      is-given (one .prepare .ensures) (e .if1 .left) (ok (start one)) (λ z. prepared-so (n (start one)) (s (start one) true .counts) (s (start one) true .paid) z .0)
+      (solved-range (n (start one)) (s (start one) true .counts) (s (start one) true .paid))
 
   passed : (has : Bool) → setRefusal (n (start one)) (s (start one) has) (start one .args .method) ≡ methodRefusal (n (start one)) (s (start one) has) (start one .args .method)
-  passed has = let a = start one in by-method (n a) (s a has) (a .args .method) (lent-passed (ok a) (one .prepare .ensures) (e .if1 .left))
+  passed has = let a = start one in by-method (n a) (s a has) (a .args .method) (lent-passed (one .prepare .ensures) (e .if1 .left))
 
 module _ (c : tie.After-method-bases) where
   abbrev two : tie.Else1
@@ -108,6 +112,7 @@ module _ (c : tie.After-gaps) where
   size = let f = base .pre .0 .counts .small .few in let l = base .pre .2 in (omega arith, omega arith, omega arith)
 
 returns-3 : tie.Need-returns-3
+unfolding delaysOf
 returns-3 c has =
     let y = c .before .before in
     let x = y .before .before in
@@ -117,7 +122,7 @@ returns-3 c has =
     let b = base g in
     let e = two (made r) in
     let z = e .if1 .left in
-    let p-is = lent-delays (ok b) (one e .prepare .ensures) z has in
+    let p-is = lent-delays (one e .prepare .ensures) z in
     test-yes (b .pre .0) (b .pre .1) (b .pre .2) has (b .args .basis) _
     (λ i j h l w. years-cell (given e) has (made r .method-bases .ensures has) (else2 r .if2 .left) (r .shares-of .ensures) (b .args .basis) i j h l w
     ∙ ap (λ (q : List ℤ). record { rbns = rbns (n b) (s b has) q (b .args .method) (b .args .basis) i j; ibnr = ibnr (n b) (s b has) q (b .args .method) i j }) p-is)

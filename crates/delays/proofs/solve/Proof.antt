@@ -6,6 +6,7 @@ use mathlib.Core.List.{List}
 use Prim.Native.Nat.{ℕ, _+_, _-_, _*_, _^_, _≤_, _<_}
 use native.Mathlib.Numerals.{add-one}
 use native.Mathlib.Omega.{arith}
+use borrow.Author.Tests.{not-true, not-false}
 use lib.IntN.{ℤ, pos, negℤ, natAbs}
 use lib.ListN.{set}
 use mir.Syntax.{w64}
@@ -81,39 +82,32 @@ loop-holds : tie.Need-loop-holds Inv-loop μ-loop
 unfolding delaysTo
 loop-holds c = (omega arith, refl, every-none _)
 
+-- what is asked of it
+asked : (c : tie.After-in-range Inv-loop μ-loop) → let o = one (c .before) in c .in-range .result ≡ held (at (delays (m o) (b o) (q o)) (l o))
+asked c = c .in-range .ensures ∙ ap held (x-is (c .before))
+
 returns : tie.Need-returns Inv-loop μ-loop
 returns c =
-    let d = c .before .before in
-    let x : ℤ = at (delays (m (one d)) (b (one d)) (q (one d))) (l (one d)) in
-    let h : x ⋖ negℤ (pos (8 * 10 ^ 9)) = lt-yes (rw (x-is d) at (c .before .if1 .taken)) in
-    c .no-delays .ensures ∙ refused d (below-no _ _ x h)
-
-returns-2 : tie.Need-returns-2 Inv-loop μ-loop
-returns-2 c =
-    let d = c .before .before .before in
-    let x : ℤ = at (delays (m (one d)) (b (one d)) (q (one d))) (l (one d)) in
-    let h : pos (8 * 10 ^ 9) ⋖ x = lt-yes (rw (x-is d) at (c .before .if2 .taken)) in
-    c .no-delays2 .ensures ∙ refused d (above-no (negℤ (pos (8 * 10 ^ 9))) _ x h)
+    let t = c .before .before in
+    c .no-delays .ensures ∙ refused (t .before) (sym (asked t) ∙ not-true _ (c .before .if1 .taken))
 
 loop-again : tie.Need-loop-again Inv-loop μ-loop
 unfolding delaysTo
 loop-again c =
-    let d = c .before .before in
-    let o = one d in
-    let x : ℤ = at (delays (m o) (b o) (q o)) (l o) in
-    let low : negℤ (pos (8 * 10 ^ 9)) ⩽ x = lt-no (rw (x-is d) at (c .before .if1 .left)) in
-    let high : x ⩽ pos (8 * 10 ^ 9) = lt-no (rw (x-is d) at (c .if2 .left)) in (
+    let t = c .before in
+    let d = t .before in
+    let o = one d in (
       omega (arith, inside o),
       more (b o) (q o) (l o) (o .before .before .loop .inv .1) (x-is d ∙ delay-from (b o) (q o) (m o) (l o) (start o .pre .few) (inside o)),
-      every-more _ (l o) (o .before .before .loop .inv .2) (within-yes _ _ x low high),
+      every-more _ (l o) (o .before .before .loop .inv .2) (sym (asked t) ∙ not-false _ (c .if1 .left)),
     )
   where
     more : (b q : List ℤ) (l : ℕ) {p : List ℤ} {v : ℤ} → p ≡ delaysTo b q l → v ≡ delayAfter b q (delaysTo b q l) l → set p l v ≡ delaysTo b q (l + 1)
     more b q l e f = rw add-one (ap₂ (λ (p : List ℤ) (v : ℤ). set p l v) e f)
 
-returns-3 : tie.Need-returns-3 Inv-loop μ-loop
+returns-2 : tie.Need-returns-2 Inv-loop μ-loop
 unfolding solvedOf q12 delays
-returns-3 c =
+returns-2 c =
     let s = c .before .before in
     let e : c .before .loop .l ≡ s .args .m = omega arith in
     let ok = rw e at (c .before .loop .inv .2) in
@@ -126,15 +120,13 @@ solve-spec =
     Inv-loop
     μ-loop
     loop-holds
-    (λ c κs. next-of (m c) (b c) (q c) (start c .pre) (l c) (inside c) _ (past-held c))
-    (λ c. fits-abs (omega arith))
+    (λ c κs. next-of (start c .pre) (l c) (inside c) 1 _ (omega arith) (λ k h. past-held c k (omega arith)))
+    (λ c κs. tt)
     (λ c κs. tt)
     returns
-    (λ c κs. tt)
-    returns-2
     (λ c. let o = one (c .before .before) in omega (arith, inside o, start o .pre .few))
     (λ c. let o = one (c .before .before) in omega (arith, inside o, start o .pre .few))
     (λ c. let o = one (c .before .before) in omega (arith, inside o, start o .pre .few))
     (λ c. let o = one (c .before .before) in omega (arith, inside o))
     loop-again
-    returns-3)
+    returns-2)

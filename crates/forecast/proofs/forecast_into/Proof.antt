@@ -1,78 +1,18 @@
--- `forecast::forecast_into` meets its contract: questions 1 to 6, then 7, and then the forecast of
--- the set. Assumes nothing.
-use mathlib.Core.Path.{refl, sym, _∙_}
-use mathlib.Core.List.{List}
-use Prim.Native.Nat.{ℕ, _≤_}
-use native.Mathlib.Omega.{arith}
+-- `forecast::forecast_into` meets its contract: `forecast_file` with the delays solved here.
+-- Assumes nothing.
+use mathlib.Core.Path.{refl}
 use borrow.Author.Needs.{needs}
-use denote.Ref.{now}
-use lib.IntN.{ℤ}
-use Rattle.model.specs.Records.{hasIncurred}
-use Rattle.model.specs.CellsLaws.{size-most}
-use Rattle.forecast.specs.ReadFile.{passed-settings, read-sized, read-in-range}
-use Rattle.forecast.specs.FileLaws.{by-settings, by-room, refused, forecasted}
+use Rattle.model.specs.Delays.{delaysOf}
+use Rattle.model.specs.Questions.{ofForecast}
+use Rattle.model.specs.Calls.{forecastRefusal, forecastAnswer, forecastOutput}
+use Rattle.delays.specs.Prepared.{asksDelays}
+use Rattle.forecast.specs.SetForecast.{ofEither, eitherDelays}
 use Rattle.forecast.proofs.forecast_into.Statement.{statement}
 use Rattle.forecast.proofs.forecast_into.Tie as tie
 
-module _ (c : tie.After-read-to-forecast) where
-  abbrev start : tie.Start
-  start = c .before .before .before
-
-  abbrev m : ℕ
-  m = start .args .m
-
-  abbrev f : List ℕ
-  f = now (start .args .file)
-
-  abbrev out : List ℤ
-  out = now (start .args .out)
-
-sized : (c : tie.Else1) → (2 ≤ m (c .before)) × (m (c .before) ≤ 20)
-sized c = read-sized (c .before .read-to-forecast .ensures) (c .if1 .left)
-
 returns : tie.Need-returns
-returns c =
-    let b = c .before in
-    let e = b .read-to-forecast .ensures .refusal in
-    let o = c .if1 .taken in
-    refused (m b) (f b) (start b .args .method) (start b .args .basis) (out b) o
-    (by-settings (m b) (f b) (start b .args .method) (start b .args .basis) (out b) (λ z. o (e ∙ z)) ∙ sym e)
-
-returns-2 : tie.Need-returns-2
-returns-2 c =
-    let y = c .before in
-    let b = y .before in
-    refused (m b) (f b) (start b .args .method) (start b .args .basis) (out b) (λ z. omega arith)
-    (by-room (m b) (f b) (start b .args .method) (start b .args .basis) (out b) (passed-settings (b .read-to-forecast .ensures) (y .if1 .left)) (c .if2 .taken))
-
-forecast-set-requires : tie.Need-forecast-set-requires
-forecast-set-requires c κs =
-    let e = c .before .before .before in
-    let y = e .before in
-    (read-in-range (y .before .read-to-forecast .ensures) (y .if1 .left), e .if2 .left)
-
-returns-3 : tie.Need-returns-3
-returns-3 c =
-    let w = c .before in
-    let e = w .before .before .before .before in
-    let y = e .before in
-    let b = y .before in
-    let r = b .read-to-forecast .ensures in
-    let z = y .if1 .left in
-    forecasted (m b) (f b) (start b .args .method) (start b .args .basis) (out b) (passed-settings r z) (e .if2 .left) (r .holds z)
-    (w .forecast-set .ensures .0 (hasIncurred (m b) (f b))) (w .forecast-set .ensures .1)
+unfolding forecastRefusal forecastAnswer forecastOutput ofForecast ofEither asksDelays eitherDelays delaysOf
+returns c = c .before .forecast-file .ensures
 
 pub forecast-into-spec : {M : Type 1} → statement M
-forecast-into-spec =
-    tie.close
-    (tie.spec
-    (λ c κs. refl)
-    returns
-    (λ c. omega (arith, sized c))
-    (λ c. omega (arith, sized c))
-    (λ c. omega (arith, sized c))
-    (λ c. omega (arith, size-most _ (sized c .1)))
-    returns-2
-    forecast-set-requires
-    (λ c. search needs)
-    returns-3)
+forecast-into-spec = tie.close (tie.spec (λ c. refl) (λ c κs. tt) (λ c. search needs) returns)

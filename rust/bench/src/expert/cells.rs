@@ -82,13 +82,25 @@ fn add(sums: &mut [i64], share: i64, p: &[i64]) {
 pub fn each_year(
     set: &Set,
     m: usize,
+    settings: [u64; 2],
+    end: impl Fn(usize) -> usize,
+    visit: impl FnMut(usize, Cells),
+) -> Result<[i64; 20], u64> {
+    each_year_by(set, m, settings, |found| solve(m, found), end, visit)
+}
+
+/// The same with delays from the estimates, and the question that `delays` asks in place of 12.
+pub fn each_year_by(
+    set: &Set,
+    m: usize,
     [method, basis]: [u64; 2],
+    delays: impl FnOnce(&Estimates) -> Result<[i64; 20], u64>,
     end: impl Fn(usize) -> usize,
     mut visit: impl FnMut(usize, Cells),
 ) -> Result<[i64; 20], u64> {
     let mut estimates = Estimates::default();
     estimates.fill(set, m)?;
-    let p = solve(m, &estimates)?;
+    let p = delays(&estimates)?;
     let bases = row_bases(set, m, &estimates, method)?;
     let (b, p) = (&estimates.b, &p[..m]);
     // For each delay j, the sum of share(k) × p(j-k) over the reported k and over the others. Under

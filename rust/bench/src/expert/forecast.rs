@@ -1,7 +1,9 @@
 //! The forecast of a file.
 
-use super::cells::each_year;
+use super::cells::each_year_by;
+use super::delays::solve;
 use super::records::fill;
+use super::shares::Estimates;
 use crate::plain::{question_6, Set};
 
 /// Questions 1 to 7 and 9 to 14, the entries at the front of `out`, and the leftovers.
@@ -12,18 +14,30 @@ pub fn forecast(
     basis: u64,
     out: &mut [i64],
 ) -> Result<[i64; 20], u64> {
+    forecast_by(file, m, [method, basis], |found| solve(m, found), out)
+}
+
+/// The same with delays from the estimates, and the question that `delays` asks in place of 12.
+pub fn forecast_by(
+    file: &[u8],
+    m: usize,
+    settings: [u64; 2],
+    delays: impl FnOnce(&Estimates) -> Result<[i64; 20], u64>,
+    out: &mut [i64],
+) -> Result<[i64; 20], u64> {
     let mut set = Set::zero();
     fill(file, m, &mut set)?;
-    question_6(&set, method, basis)?;
+    question_6(&set, settings[0], settings[1])?;
     let width = 2 * (2 * m - 1);
     let mut rows = out
         .get_mut(..m * width)
         .ok_or(7u64)?
         .chunks_exact_mut(width);
-    each_year(
+    each_year_by(
         &set,
         m,
-        [method, basis],
+        settings,
+        delays,
         |_| 2 * m - 1,
         |i, cells| {
             let Some(row) = rows.next() else { return };

@@ -37,19 +37,31 @@ fn cell(v: i64, share: &[i64; 20], p: &[i64; 20], j: usize, from: usize, to: usi
 
 /// Questions 9 to 14, the entries at the front of `out`, and the leftovers.
 pub fn forecast_set(set: &Set, method: u64, basis: u64, out: &mut [i64]) -> Result<[i64; 20], u64> {
-    let m = set.m;
     let estimates = estimates(set)?;
-    let p = solve(m, &estimates.shares)?;
-    let bases = row_bases(set, &estimates, method)?;
+    let p = solve(set.m, &estimates.shares)?;
+    forecast_by_delays(set, &estimates, &p, method, basis, out)
+}
+
+/// Questions 13 and 14, the entries and the leftovers by delays that are there.
+pub fn forecast_by_delays(
+    set: &Set,
+    estimates: &Estimates,
+    p: &[i64; 20],
+    method: u64,
+    basis: u64,
+    out: &mut [i64],
+) -> Result<[i64; 20], u64> {
+    let m = set.m;
+    let bases = row_bases(set, estimates, method)?;
     let width = 2 * (2 * m - 1);
     for (i, row) in (1..=m).zip(out.chunks_exact_mut(width)) {
         let v = bases.v[i - 1];
-        let s = reported_shares(set, &estimates, i, basis);
+        let s = reported_shares(set, estimates, i, basis);
         row.fill(0);
         for j in m - i + 1..=2 * m - 2 {
             let (first, last) = (j.saturating_sub(m - 1), j.min(m - 1));
-            row[2 * j] = cell(v, &s, &p, j, first, last.min(m - i));
-            row[2 * j + 1] = cell(v, &estimates.shares.b, &p, j, first.max(m - i + 1), last);
+            row[2 * j] = cell(v, &s, p, j, first, last.min(m - i));
+            row[2 * j + 1] = cell(v, &estimates.shares.b, p, j, first.max(m - i + 1), last);
         }
     }
     Ok(bases.leftovers)
@@ -63,11 +75,23 @@ pub fn forecast(
     basis: u64,
     out: &mut [i64],
 ) -> Result<[i64; 20], u64> {
+    let (set, out) = set_to_forecast(file, m, method, basis, out)?;
+    forecast_set(&set, method, basis, out)
+}
+
+/// Questions 1 to 7: the set, and the places of its entries.
+pub fn set_to_forecast<'a>(
+    file: &[u8],
+    m: usize,
+    method: u64,
+    basis: u64,
+    out: &'a mut [i64],
+) -> Result<(Set, &'a mut [i64]), u64> {
     let set = read_set(file, m)?;
     question_6(&set, method, basis)?;
     let entries = 2 * m * (2 * m - 1);
     if out.len() < entries {
         return Err(7);
     }
-    forecast_set(&set, method, basis, &mut out[..entries])
+    Ok((set, &mut out[..entries]))
 }

@@ -1,6 +1,6 @@
 //! Document 01 in plain Rust with 128-bit numbers, a module for each of its sections, and the
-//! closing page, cash by dates and the claims journal of document 02. It asks the same questions in
-//! the same order.
+//! closing page, cash by dates, the claims journal and the given delays of document 02. It asks the
+//! same questions in the same order.
 
 mod back_test;
 mod cash;
@@ -8,6 +8,7 @@ mod claim_costs;
 mod closing;
 mod delays;
 mod forecast;
+mod given_delays;
 mod journal;
 mod page;
 mod records;
@@ -20,6 +21,7 @@ pub use claim_costs::{claim_costs, ClaimCosts, Inflation};
 pub use closing::{first_line, respond};
 pub use delays::delays;
 pub use forecast::{forecast, question_6};
+pub use given_delays::{check_delays, forecast_with_delays};
 pub use journal::{replay, JournalTally};
 pub use page::closing_page;
 pub use records::{read_set, write_set, Set};

@@ -5,11 +5,13 @@ mod cash;
 mod claim_costs;
 mod delays;
 mod forecast;
+mod given_delays;
 mod page;
 mod reader;
 mod shares;
 
 pub use cash::compare_file as cash_in_window;
+pub use given_delays::compare_file as forecast_with_delays;
 pub use page::compare_file as closing_page;
 pub use reader::compare_file as read_set;
 
@@ -37,7 +39,8 @@ pub fn compare(seed: u64, case: &Case, counts: &mut Counts) -> Result<(), Differ
         counts.count(name, accepted);
     }
     page::compare(seed, case, counts)?;
-    cash::compare(seed, case, counts)
+    cash::compare(seed, case, counts)?;
+    given_delays::compare(seed, case, counts)
 }
 
 /// Every call on the seed's case.

@@ -1,6 +1,6 @@
-/* The examples of document 01 from C, windows of dates and a claims journal: every function of the
- * header, accepted and refused, and what a refusal leaves. Prints the first thing that is wrong and
- * ends with status 1, or ends with 0. */
+/* The examples of document 01 from C, given delays, windows of dates and a claims journal: every
+ * function of the header, accepted and refused, and what a refusal leaves. Prints the first thing
+ * that is wrong and ends with status 1, or ends with 0. */
 #include "pardesul.h"
 #include <stdio.h>
 #include <stdlib.h>
@@ -70,6 +70,12 @@ static set_file too_wide(void) {
 /* Refused 11 where late is 1000. */
 static set_file thin(int64_t late) {
   return file_of(2, (int64_t[]){1, late, 90}, paid_k, incurred_k);
+}
+
+/* p(0) = 2500002.5; behind its even neighbour p(1) = 2493749994.5, behind the odd one p(1) =
+ * 2493749993. */
+static set_file tied(void) {
+  return file_of(2, (int64_t[]){2, 3, 2}, (int64_t[]){1000001, 998999999, 1000001}, NULL);
 }
 
 /* K's file, byte by byte: by kind, then accident year, then delay. */
@@ -201,6 +207,46 @@ static void delays(void) {
          "the widest delays");
 }
 
+/* The refusal of two given delays. */
+static uint64_t given(set_file file, int64_t first, int64_t second) {
+  const int64_t delays[] = {first, second};
+  return pardesul_check_delays(file.bytes, file.length, 2, delays, 2);
+}
+
+static void check_delays(void) {
+  const int64_t delays[] = {750000000, 312500000, 0};
+  set_file k = set_k(), wide = widest(), refused = thin(1000);
+  expect(pardesul_check_delays(k.bytes, k.length, 2, delays, 2) == PARDESUL_ACCEPTED,
+         "delays that are given");
+  expect(pardesul_check_delays(k.bytes, k.length, 2, delays, 0) == PARDESUL_REFUSED_GIVEN_DELAYS &&
+             pardesul_check_delays(k.bytes, k.length, 2, delays, 1) ==
+                 PARDESUL_REFUSED_GIVEN_DELAYS &&
+             pardesul_check_delays(k.bytes, k.length, 2, delays, 3) ==
+                 PARDESUL_REFUSED_GIVEN_DELAYS,
+         "no delays, one and three of two years");
+  expect(pardesul_check_delays(refused.bytes, refused.length, 2, delays, 0) ==
+                 PARDESUL_REFUSED_SHARE &&
+             pardesul_check_delays(k.bytes, k.length - 1, 2, delays, 2) == PARDESUL_REFUSED_LENGTH,
+         "a refused set, before its delays are looked at");
+  expect(given(k, 750000001, 312500000) == PARDESUL_REFUSED_GIVEN_DELAYS &&
+             given(k, 750000000, 312499999) == PARDESUL_REFUSED_GIVEN_DELAYS,
+         "a delay that is one off");
+  expect(given(k, INT64_MIN, INT64_MIN) == PARDESUL_REFUSED_GIVEN_DELAYS &&
+             given(k, INT64_MAX, INT64_MIN) == PARDESUL_REFUSED_GIVEN_DELAYS,
+         "delays without end");
+  expect(given(wide, 3000000000, -8000000000) == PARDESUL_ACCEPTED, "the widest delays given");
+  expect(given(too_wide(), 3004000000, -8016000000) == PARDESUL_REFUSED_GIVEN_DELAYS,
+         "a delay out of range that solves the system");
+  expect(given(tied(), 2500002, 2493749994) == PARDESUL_ACCEPTED &&
+             given(tied(), 2500002, 2493749995) == PARDESUL_ACCEPTED &&
+             given(tied(), 2500003, 2493749993) == PARDESUL_ACCEPTED,
+         "both neighbours of a half, and what follows from each");
+  expect(given(tied(), 2500003, 2493749994) == PARDESUL_REFUSED_GIVEN_DELAYS &&
+             given(tied(), 2500001, 2493749994) == PARDESUL_REFUSED_GIVEN_DELAYS &&
+             given(tied(), 2500002, 2493749993) == PARDESUL_REFUSED_GIVEN_DELAYS,
+         "what is beside them");
+}
+
 static void claim_costs(void) {
   struct {
     double mu, factors[PARDESUL_LIST], ratios[PARDESUL_LIST];
@@ -279,6 +325,66 @@ static void forecast(void) {
                            PARDESUL_BASIS_ESTIMATED, out, length, leftovers) == PARDESUL_ACCEPTED &&
              cell(out, 2, 1, -2000, 2250),
          "cells of the widest delays");
+}
+
+static void forecast_with_delays(void) {
+  struct {
+    int64_t out[PARDESUL_ENTRIES(2) + 1], leftovers[PARDESUL_LIST];
+  } with, without;
+  const size_t length = PARDESUL_ENTRIES(2);
+  const int64_t own[] = {750000000, 312500000}, off[] = {750000000, 312500001},
+                even[] = {2500002, 2493749994}, odd[] = {2500002, 2493749995};
+  set_file k = set_k(), two = file_of(2, counts_k, paid_k, NULL), halves = tied(),
+           refused = too_wide();
+  memset(&with, BEFORE, sizeof with);
+  memset(&without, BEFORE, sizeof without);
+  expect(pardesul_forecast_with_delays(k.bytes, k.length, 2, PARDESUL_METHOD_DCL,
+                                       PARDESUL_BASIS_ESTIMATED, own, 1, with.out, length,
+                                       with.leftovers) == PARDESUL_REFUSED_GIVEN_DELAYS,
+         "the forecast with one delay of two years");
+  expect(pardesul_forecast_with_delays(k.bytes, k.length, 2, PARDESUL_METHOD_DCL,
+                                       PARDESUL_BASIS_ESTIMATED, own, 0, with.out, length,
+                                       with.leftovers) == PARDESUL_REFUSED_GIVEN_DELAYS,
+         "the forecast without a delay");
+  expect(pardesul_forecast_with_delays(k.bytes, k.length, 2, PARDESUL_METHOD_IDCL,
+                                       PARDESUL_BASIS_ACTUAL, off, 2, with.out, length,
+                                       with.leftovers) == PARDESUL_REFUSED_GIVEN_DELAYS,
+         "the forecast with a delay that is one off");
+  expect(pardesul_forecast_with_delays(k.bytes, k.length, 2, PARDESUL_METHOD_DCL,
+                                       PARDESUL_BASIS_ESTIMATED, off, 2, with.out, length - 1,
+                                       with.leftovers) == PARDESUL_REFUSED_OUTPUT,
+         "entries that are too few, before the delays are looked at");
+  expect(pardesul_forecast_with_delays(two.bytes, two.length, 2, PARDESUL_METHOD_BDCL,
+                                       PARDESUL_BASIS_ESTIMATED, off, 2, with.out, 0,
+                                       with.leftovers) == PARDESUL_REFUSED_METHOD,
+         "BDCL without incurred, before the entries are looked at");
+  expect(pardesul_forecast_with_delays(refused.bytes, refused.length, 2, PARDESUL_METHOD_DCL,
+                                       PARDESUL_BASIS_ESTIMATED, own, 2, with.out, length,
+                                       with.leftovers) == PARDESUL_REFUSED_GIVEN_DELAYS,
+         "20 in place of 12");
+  expect(untouched(&with, sizeof with), "what a forecast with refused delays leaves");
+  for (uint64_t method = 0; method <= 2; method++) {
+    for (uint64_t basis = 0; basis <= 1; basis++) {
+      expect(pardesul_forecast_with_delays(k.bytes, k.length, 2, method, basis, own, 2, with.out,
+                                           length + 1, with.leftovers) == PARDESUL_ACCEPTED &&
+                 pardesul_forecast(k.bytes, k.length, 2, method, basis, without.out, length + 1,
+                                   without.leftovers) == PARDESUL_ACCEPTED &&
+                 memcmp(&with, &without, sizeof with) == 0,
+             "the forecast with the delays that are solved");
+    }
+  }
+  expect(untouched(with.out + length, sizeof *with.out), "the entry past the forecast");
+  expect(cell(with.out, 2, 1, 338, 202), "the cells of IDCL with given delays");
+  expect(pardesul_forecast_with_delays(halves.bytes, halves.length, 2, PARDESUL_METHOD_DCL,
+                                       PARDESUL_BASIS_ESTIMATED, even, 2, with.out, length,
+                                       with.leftovers) == PARDESUL_ACCEPTED &&
+             cell(with.out, 1, 2, 1496249996, 0),
+         "the even neighbour of a half");
+  expect(pardesul_forecast_with_delays(halves.bytes, halves.length, 2, PARDESUL_METHOD_DCL,
+                                       PARDESUL_BASIS_ESTIMATED, odd, 2, with.out, length,
+                                       with.leftovers) == PARDESUL_ACCEPTED &&
+             cell(with.out, 1, 2, 1496249997, 0),
+         "and the odd one");
 }
 
 static void back_test(void) {
@@ -534,8 +640,10 @@ int main(void) {
   reader();
   shares();
   delays();
+  check_delays();
   claim_costs();
   forecast();
+  forecast_with_delays();
   back_test();
   closing_page();
   cash_in_window();

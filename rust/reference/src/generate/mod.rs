@@ -1,9 +1,10 @@
-//! Seeded sets, files, journals, windows and calls for tests and comparisons: tidy ones, ones at
-//! every limit, and ones that each question refuses.
+//! Seeded sets, files, journals, windows, given delays and calls for tests and comparisons: tidy
+//! ones, ones at every limit, and ones that each question refuses.
 
 mod damage;
 mod edges;
 mod faults;
+mod given_delays;
 mod halves;
 mod incurred;
 mod journals;
@@ -13,6 +14,7 @@ mod sets;
 mod windows;
 
 pub use faults::{Fault, PAIRS};
+pub use given_delays::{given_delays, next_values, solved_delays, Given, LIMIT};
 pub use journals::{any_journal, journal_case, JournalCase, Made, Spot};
 pub use random::Random;
 pub use sets::{any_set, set_of, shape_of, Shape};

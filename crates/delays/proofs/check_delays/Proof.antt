@@ -1,0 +1,11 @@
+-- `check_delays` meets its contract: `file_delays` with those that are given. Assumes nothing.
+use denote.Ref.{now}
+use Rattle.delays.specs.PreparedLaws.{as-checked}
+use Rattle.delays.proofs.check_delays.Statement.{statement}
+use Rattle.delays.proofs.check_delays.Tie as tie
+
+returns : tie.Need-returns
+returns c = let a = c .before .before .before .args in as-checked (a .m) (now (a .file)) (c .file-delays .ensures)
+
+pub check-delays-spec : {M : Type 1} → statement M
+check-delays-spec = tie.close (tie.spec (λ c κs. tt) returns)

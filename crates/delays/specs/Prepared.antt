@@ -27,10 +27,11 @@ asksDelays m c d given lent = cond given (ofGivenDelays m c d lent) (ofDelays m 
 unfoldable pub delaysFrom : ℕ → List ℤ → List ℤ → Bool → List ℤ → List ℤ
 delaysFrom m c d given lent = cond given (placed m lent) (pairDelays m c d)
 
--- the first no
+-- the first no of questions 9 to 11 and that one
 unfoldable pub refusalFrom : ℕ → List ℤ → List ℤ → Bool → List ℤ → ℕ
 refusalFrom m c d given lent = firstNo (ofShares m c d ++ asksDelays m c d given lent)
 
+-- that of questions 9 to 12
 unfoldable pub preparedRefusal : ℕ → List ℤ → List ℤ → ℕ
 preparedRefusal m c d = firstNo (ofShares m c d ++ ofDelays m (pairDelays m c d))
 

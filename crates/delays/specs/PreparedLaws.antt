@@ -9,7 +9,7 @@ use lib.IntN.{ℤ}
 use Rattle.model.specs.Records.{setOf}
 use Rattle.model.specs.Shares.{bList}
 use Rattle.model.specs.Delays.{delaysOf}
-use Rattle.model.specs.Questions.{q12, q20, Question, firstNo, ofShares, ofDelays, ofGivenDelays}
+use Rattle.model.specs.Questions.{q12, q20, firstNo, ofShares, ofDelays, ofGivenDelays}
 use Rattle.model.specs.QuestionsLaws.{numbered, no-refusal, each-yes, stage-no, stage-yes, stages-so}
 use Rattle.model.specs.Calls.{ifAccepted, zeros, callRefusal, readRefusal, delaysRefusal, delaysAnswer, checkDelaysRefusal}
 use Rattle.model.specs.CallsLaws.{by-file, by-set, number-of, as-answered, if-refused}

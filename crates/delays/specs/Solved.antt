@@ -1,10 +1,10 @@
 -- What `solve` and `checked` hand back of the shares b and q of a set of size m, and what they ask
 -- of them.
 use Prim.Native.Nat.{ℕ, suc, _+_, _-_, _*_, _^_, _≤_, _<_}
+use mathlib.Core.Path.{_≡_}
 use mathlib.Core.Bool.{false, cond}
 use mathlib.Core.List.{List}
 use lib.IntN.{ℤ, pos, natAbs, _*ℤ_}
-use mathlib.Core.Path.{_≡_}
 use Rattle.integers.specs.Parts.{_⩽_, _⋖_}
 use Rattle.integers.specs.Sums.{sum}
 use Rattle.model.specs.Lists.{at, listed}
@@ -30,7 +30,7 @@ solvedOf m b q = let p = delays m b q in record { ok = q12 m p; p = cond (q12 m 
 abbrev pub placed : ℕ → List ℤ → List ℤ
 placed m lent = listed 20 m (at lent) (pos 0)
 
--- where question 20 gets a yes
+-- the given delays, where question 20 gets a yes
 unfoldable pub checkedOf : ℕ → List ℤ → List ℤ → List ℤ → Solved
 checkedOf m b q lent = let ok = q20 m b q lent in record { ok = ok; p = cond ok (placed m lent) (zeros 20) }
 

@@ -3,8 +3,7 @@
 use mathlib.Core.Path.{_≡_, refl, sym, _∙_, ap}
 use mathlib.Core.Bool.{Bool, true}
 use mathlib.Core.List.{List, [], _∷_, _++_}
-use Prim.Native.Nat.{ℕ, _≤_, _<_}
-use native.Mathlib.Omega.{arith}
+use Prim.Native.Nat.{ℕ, _≤_}
 use lib.IntN.{ℤ, pos}
 use lib.ListN.{length, take}
 use lib.Seq.{getD-take}
@@ -12,13 +11,11 @@ use Rattle.model.specs.Lists.{at}
 use Rattle.model.specs.Records.{setOf, hasIncurred}
 use Rattle.model.specs.Shares.{bList}
 use Rattle.model.specs.Delays.{delays, delaysOf}
-use Rattle.model.specs.Cells.{outputFrom}
 use Rattle.model.specs.CellsLaws.{same-output}
 use Rattle.model.specs.Questions.{Question, q6, q7, q12, q20, firstNo, ofRecords, ofFile, ofShares, ofDelays, ofGivenDelays, ofMethod, ofForecast, ofForecastWith}
 use Rattle.model.specs.QuestionsLaws.{numbered, passed-over}
 use Rattle.model.specs.Calls.{ifAccepted, callRefusal, readRefusal, delaysRefusal, delaysAnswer, checkDelaysRefusal, forecastRefusal, forecastAnswer, forecastOutput, forecastWithRefusal, forecastWithAnswer, forecastWithOutput}
 use Rattle.model.specs.CallsLaws.{all-passed}
-use Rattle.model.specs.declared.DelaysAnswer.{DelaysAnswer}
 use Rattle.model.specs.declared.TriangleSet.{TriangleSet}
 use Rattle.chain_ladder.specs.Accepted.{valid-set}
 use Rattle.chain_ladder.specs.DevelopedLaws.{Shared, shared-set}

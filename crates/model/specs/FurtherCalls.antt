@@ -1,6 +1,6 @@
 -- More examples of our own: the back-test, room for a forecast and for a file. The values are those
 -- of an independent calculation with big numbers.
-use Prim.Native.Nat.{ℕ, _-_, _^_}
+use Prim.Native.Nat.{_-_, _^_}
 use mathlib.Core.Path.{_≡_, refl}
 use mathlib.Core.Bool.{true, false}
 use mathlib.Core.List.{List, [], _∷_, _++_}

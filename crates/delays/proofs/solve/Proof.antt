@@ -12,14 +12,12 @@ use lib.ListN.{set}
 use mir.Syntax.{w64}
 use mir.Val.{toZ, ofZ}
 use mir.Facts.{toZ-ofZ}
-use Rattle.integers.specs.Parts.{_⩽_, _⋖_}
-use Rattle.integers.specs.Order.{lt-yes, lt-no, natAbs-≤}
+use Rattle.integers.specs.Order.{natAbs-≤}
 use Rattle.model.specs.Lists.{at, every}
 use Rattle.model.specs.ListsLaws.{every-none, every-more, every-at, every-no}
 use Rattle.model.specs.Delays.{delayAfter, delaysTo, delays}
 use Rattle.model.specs.Questions.{within, q12}
-use Rattle.model.specs.QuestionsLaws.{within-so, within-yes, below-no, above-no}
-use Rattle.arithmetic.specs.Words.{fits-abs}
+use Rattle.model.specs.QuestionsLaws.{within-so}
 use Rattle.delays.specs.DelaysLaws.{delay-kept, delay-from}
 use Rattle.delays.specs.Solved.{unsolved, solvedOf}
 use Rattle.delays.specs.SolvedLaws.{next-of}

@@ -1,6 +1,6 @@
 -- `forecast::set::forecast_either` meets its contract: what the methods share, and then the
 -- forecast from it; and demand 3. Assumes nothing.
-use mathlib.Core.Path.{_≡_, refl, sym, _∙_, ap}
+use mathlib.Core.Path.{refl, sym, _∙_, ap}
 use mathlib.Core.Bool.{Bool, true}
 use mathlib.Core.List.{List}
 use Prim.Native.Nat.{ℕ}

@@ -137,6 +137,22 @@ fn shares_and_delays() {
     });
 }
 
+/// The entries at the front of an output that held 7, and the leftovers, are those that are wanted.
+fn same_forecast(
+    out: &[i64],
+    found: Answer<[i64; 20]>,
+    wanted: Answer<reference::Forecast>,
+    text: &str,
+) {
+    let entries = wanted.as_ref().map_or(&[][..], |wanted| &wanted.entries);
+    assert_eq!(out[..entries.len()], *entries, "{text}");
+    assert!(
+        out[entries.len()..].iter().all(|&entry| entry == 7),
+        "{text}"
+    );
+    assert_eq!(found, wanted.map(|wanted| wanted.leftovers), "{text}");
+}
+
 #[test]
 fn forecast() {
     each_case(|_, case, peer, text| {
@@ -144,13 +160,7 @@ fn forecast() {
         let (m, method, basis) = (case.m, case.method, case.basis);
         let found = (peer.forecast)(&case.file, m as usize, method, basis, &mut out);
         let wanted = reference::forecast(&case.file, m, method, basis, case.out_len);
-        let entries = wanted.as_ref().map_or(&[][..], |wanted| &wanted.entries);
-        assert_eq!(out[..entries.len()], *entries, "{text}");
-        assert!(
-            out[entries.len()..].iter().all(|&entry| entry == 7),
-            "{text}"
-        );
-        assert_eq!(found, wanted.map(|wanted| wanted.leftovers), "{text}");
+        same_forecast(&out, found, wanted, text);
     });
 }
 
@@ -176,13 +186,7 @@ fn given_delays() {
             let mut out = vec![7; case.out_len];
             let call = peer.forecast_with_delays;
             let found = call(file, m as usize, method, basis, &delays, &mut out);
-            let entries = wanted.as_ref().map_or(&[][..], |wanted| &wanted.entries);
-            assert_eq!(out[..entries.len()], *entries, "{text}");
-            assert!(
-                out[entries.len()..].iter().all(|&entry| entry == 7),
-                "{text}"
-            );
-            assert_eq!(found, wanted.map(|wanted| wanted.leftovers), "{text}");
+            same_forecast(&out, found, wanted, &text);
         }
     });
 }

@@ -2,21 +2,25 @@
 -- of them.
 use Prim.Native.Nat.{ℕ, suc, _+_, _-_, _*_, _^_, _≤_, _<_}
 use mathlib.Core.Path.{_≡_}
-use mathlib.Core.Bool.{false, cond}
+use mathlib.Core.Bool.{Bool, false, cond}
 use mathlib.Core.List.{List}
-use lib.IntN.{ℤ, pos, natAbs, _*ℤ_}
+use lib.IntN.{ℤ, pos, negℤ, natAbs, _*ℤ_}
 use Rattle.integers.specs.Parts.{_⩽_, _⋖_}
 use Rattle.integers.specs.Sums.{sum}
 use Rattle.model.specs.Lists.{at, listed}
 use Rattle.model.specs.Rounding.{S}
 use Rattle.model.specs.Delays.{delays}
-use Rattle.model.specs.Questions.{q12, q20}
+use Rattle.model.specs.Questions.{within, q12, q20}
 use Rattle.model.specs.Calls.{zeros}
 use Rattle.delays.specs.declared.Solved.{Solved}
 
 -- the sum of b(k) × p(l-k) for k = first to l
 unfoldable pub weighedSum : List ℤ → List ℤ → ℕ → ℕ → ℤ
 weighedSum b p first l = sum (suc l - first) (λ k. at b (first + k) *ℤ at p (l - (first + k)))
+
+-- a delay within question 12's range
+abbrev pub held : ℤ → Bool
+held z = within (negℤ (pos (8 * 10 ^ 9))) (pos (8 * 10 ^ 9)) z
 
 -- a no to question 12 or 20
 abbrev pub unsolved : Solved

@@ -1,5 +1,6 @@
 -- Laws of Solved: how large the numbers get that a line of the system is made of. Assumes nothing.
 use mathlib.Core.Path.{_≡_, _∙_}
+use mathlib.Core.Bool.{true}
 use mathlib.Core.List.{List, [], _∷_}
 use Prim.Native.Nat.{ℕ, suc, _+_, _-_, _*_, _^_, _≤_, _<_}
 use native.Mathlib.Nat.{mul-le-mul}
@@ -7,15 +8,19 @@ use native.Mathlib.Omega.{arith}
 use lib.IntN.{ℤ, pos, natAbs, _+ℤ_, _*ℤ_}
 use Rattle.integers.specs.Parts.{_⩽_}
 use Rattle.integers.specs.Linear.{lin, stmt, _&_}
-use Rattle.integers.specs.Order.{≤ℤ-trans, ≤ℤ-of-≡, natAbs-mono, natAbs-*ℤ}
+use Rattle.integers.specs.Order.{≤ℤ-trans, ≤ℤ-of-≡, natAbs-mono, natAbs-≤, natAbs-*ℤ}
 use Rattle.integers.specs.Sums.{sum, sum-cong, sum-suc, sum-split, sum-part, sum-nonneg, sum-weighted}
 use Rattle.model.specs.Lists.{at}
 use Rattle.model.specs.Rounding.{S}
+use Rattle.model.specs.QuestionsLaws.{within-so}
 use Rattle.model.specs.Shares as Shares
 use Rattle.model.specs.Shares.{bList}
 use Rattle.chain_ladder.specs.SharesLaws.{at-bList, shares-sum, share-range}
 use Rattle.chain_ladder.specs.DevelopedLaws.{Shared, counts-least, counts-sound, paid-sound}
-use Rattle.delays.specs.Solved.{Solvable, Weighed, Next, weighedSum}
+use Rattle.delays.specs.Solved.{Solvable, Weighed, Next, weighedSum, held}
+
+pub held-small : (z : ℤ) → held z ≡ true → natAbs z ≤ 8 * 10 ^ 9
+held-small z e = let w = within-so _ _ z e in natAbs-≤ .1 (w .1, w .0)
 
 -- the sum of delayAfter, and that of solvesAt
 pub from-one : (b p : List ℤ) (l : ℕ) → weighedSum b p 1 l ≡ sum l (λ k. at b (suc k) *ℤ at p (l - suc k))

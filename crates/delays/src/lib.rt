@@ -4,15 +4,14 @@ use chain_ladder::ladder::shares_of;
 ghost use mathlib.Core.Path.{_≡_};
 ghost use mathlib.Core.Bool.{cond};
 ghost use Prim.Native.Nat.{_*_, _^_, _≤_};
-ghost use lib.IntN.{pos, negℤ, natAbs, _*ℤ_, _-ℤ_};
+ghost use lib.IntN.{natAbs, _*ℤ_, _-ℤ_};
 ghost use Rattle.model.specs.Lists.{at};
 ghost use Rattle.model.specs.Rounding.{S};
 ghost use Rattle.model.specs.Delays.{delayAfter, solvesAt};
-ghost use Rattle.model.specs.Questions.{within};
 ghost use Rattle.model.specs.Calls.{ifAccepted, zeros, delaysAnswer, checkDelaysRefusal};
 ghost use Rattle.model.specs.Lent.{triangleIn};
 ghost use Rattle.chain_ladder.specs.Valid.{Amounts};
-ghost use Rattle.delays.specs.Solved.{Weighed, Next, Solvable, weighedSum, unsolved, solvedOf, checkedOf};
+ghost use Rattle.delays.specs.Solved.{Weighed, Next, Solvable, weighedSum, held, unsolved, solvedOf, checkedOf};
 ghost use Rattle.delays.specs.Prepared.{Prepared, PreparedFrom, ReadDelays};
 
 // The delays, p(l) at place l, where `ok` says that question 12, or 20, got a yes; else zeros.
@@ -66,7 +65,7 @@ fn solves_at(b: &[i64; 20], q: &[i64; 20], p: &[i64; 20], l: usize) -> bool
 
 // Whether a delay is within question 12's range.
 fn in_range(x: i64) -> bool
-    ensures { λ r. ⌜ r ≡ within (negℤ (pos (8 * 10 ^ 9))) (pos (8 * 10 ^ 9)) x ⌝ }
+    ensures { λ r. ⌜ r ≡ held x ⌝ }
 {
     if x < -BOUND {
         return false;

@@ -7,9 +7,8 @@ use Prim.Native.Nat.{ℕ, suc, _-_, _*_, _^_, _≤_, _<_}
 use native.Mathlib.Omega.{arith}
 use borrow.Author.Tests.{ltb-true, ltb-false}
 use lib.Dec.{ltb, eqb}
-use lib.IntN.{ℤ, pos, negℤ, natAbs}
+use lib.IntN.{ℤ, pos, natAbs}
 use lib.ListN.{length}
-use Rattle.integers.specs.Order.{natAbs-≤}
 use Rattle.model.specs.Lists.{at, listed, every}
 use Rattle.model.specs.ListsLaws.{getD-listed, getD-listed-past, every-at, and-left, and-right}
 use Rattle.model.specs.Overlay.{overlay}
@@ -20,8 +19,8 @@ use Rattle.model.specs.Cells.{sList, rbns, ibnr, outputFrom}
 use Rattle.model.specs.CellsLaws.{same-output}
 use Rattle.model.specs.PaidReserve.{NearReserves}
 use Rattle.paid_reserve.specs.Demand3.{own-solve, demand-3}
-use Rattle.model.specs.Questions.{Question, within, q6, q12, q20, firstNo, ofShares, ofDelays, ofGivenDelays, ofMethod, ofForecast}
-use Rattle.model.specs.QuestionsLaws.{within-so, numbered, stage-no, stage-yes, stages-so}
+use Rattle.model.specs.Questions.{Question, q6, q12, q20, firstNo, ofShares, ofDelays, ofGivenDelays, ofMethod, ofForecast}
+use Rattle.model.specs.QuestionsLaws.{numbered, stage-no, stage-yes, stages-so}
 use Rattle.model.specs.Tests.{by-test}
 use Rattle.model.specs.declared.TriangleSet.{TriangleSet}
 use Rattle.chain_ladder.specs.DevelopedLaws.{Shared, shared-set, counts-rows, counts-sound}
@@ -33,7 +32,8 @@ use Rattle.model.specs.Lent.{lentSet, triangleIn}
 use Rattle.model.specs.CallsLaws.{if-accepted}
 use Rattle.chain_ladder.specs.Valid.{Valid, counts-of, paid-of, incurred-small}
 use Rattle.delays.specs.DelaysLaws.{Solves, delay-past, solves-so}
-use Rattle.delays.specs.Solved.{placed}
+use Rattle.delays.specs.Solved.{held, placed}
+use Rattle.delays.specs.SolvedLaws.{held-small}
 use Rattle.delays.specs.Prepared.{pairDelays, asksDelays, delaysFrom, refusalFrom, preparedRefusal, PreparedBy}
 use Rattle.delays.specs.PreparedLaws.{prepared-so, given-so}
 use Rattle.row_bases.specs.Method.{Asked, Based, rowBases}
@@ -137,8 +137,7 @@ in-places : (m : ℕ) (p made : List ℤ) → q12 m p ≡ true → ((l : ℕ) �
 unfolding q12
 in-places m p made in-range here past l h =
     by-test (ltb l m)
-    (λ e. let w = within-so _ _ (at p l) (every-at (λ l. within (negℤ (pos (8 * 10 ^ 9))) (pos (8 * 10 ^ 9)) (at p l)) m l in-range (ltb-true l m e)) in
-    rw (here l (ltb-true l m e) h) (natAbs-≤ .1 (w .1, w .0)))
+    (λ e. rw (here l (ltb-true l m e) h) (held-small (at p l) (every-at (λ l. held (at p l)) m l in-range (ltb-true l m e))))
     (λ e. rw (past l (ltb-false l m e) h) (omega arith))
 
 module _ (m : ℕ) (c d : List ℤ) where

@@ -1,33 +1,27 @@
 -- `checked` meets its contract: the delays so far are in range and solve their lines. Assumes
 -- nothing.
 use mathlib.Core.Path.{_≡_, sym, _∙_, ap}
-use mathlib.Core.Bool.{Bool, true, false, _&&_, and-false}
+use mathlib.Core.Bool.{true, false, _&&_, and-false}
 use mathlib.Core.List.{List}
 use Prim.Native.Nat.{ℕ, _+_, _-_, _*_, _^_, _≤_, _<_}
 use native.Mathlib.Omega.{arith}
 use borrow.Author.Tests.{not-true, not-false, eq-eqb, ne-eqb}
 use denote.Ref.{now}
 use lib.Dec.{eqb}
-use lib.IntN.{ℤ, pos, negℤ, natAbs}
+use lib.IntN.{ℤ, pos, natAbs}
 use lib.ListN.{length, set}
 use mir.Syntax.{w64}
 use mir.Val.{toZ, ofZ}
 use mir.Facts.{toZ-ofZ}
-use Rattle.integers.specs.Order.{natAbs-≤}
 use Rattle.model.specs.Lists.{at, every, listed}
 use Rattle.model.specs.ListsLaws.{every-none, every-more, every-at, every-no, getD-listed, listed-none, listed-next}
 use Rattle.model.specs.Delays.{solvesAt}
-use Rattle.model.specs.Questions.{within, q12, q20}
-use Rattle.model.specs.QuestionsLaws.{within-so}
+use Rattle.model.specs.Questions.{q12, q20}
 use Rattle.delays.specs.DelaysLaws.{same-line}
-use Rattle.delays.specs.Solved.{unsolved, checkedOf}
-use Rattle.delays.specs.SolvedLaws.{next-of}
+use Rattle.delays.specs.Solved.{held, unsolved, checkedOf}
+use Rattle.delays.specs.SolvedLaws.{held-small, next-of}
 use Rattle.delays.proofs.checked.Statement.{statement}
 use Rattle.delays.proofs.checked.Tie as tie
-
--- a delay in its bounds
-abbrev held : ℤ → Bool
-held z = within (negℤ (pos (8 * 10 ^ 9))) (pos (8 * 10 ^ 9)) z
 
 module _ (m : ℕ) (b q lent : List ℤ) where
   -- ---- question 20
@@ -118,8 +112,7 @@ module _ (e : tie.Else2 Inv-loop μ-loop) where
 
   small : (k : ℕ) → k ≤ l two → natAbs (at p k) ≤ 8 * 10 ^ 9
   small k h =
-      let w = within-so _ _ (at (lent two) k) (every-at (λ k. held (at (lent two) k)) (l two + 1) k ranges (omega arith)) in
-      rw (here k h) (natAbs-≤ .1 (w .1, w .0))
+      rw (here k h) (held-small (at (lent two) k) (every-at (λ k. held (at (lent two) k)) (l two + 1) k ranges (omega arith)))
 
 -- its line
 module _ (y : tie.After-solves-at Inv-loop μ-loop) where

@@ -1,32 +1,26 @@
 -- `solve` meets its contract: the delays so far are solved, and are in their bounds. Assumes
 -- nothing.
 use mathlib.Core.Path.{_≡_, refl, sym, _∙_, ap, ap₂}
-use mathlib.Core.Bool.{Bool, true, false}
+use mathlib.Core.Bool.{true, false}
 use mathlib.Core.List.{List}
 use Prim.Native.Nat.{ℕ, _+_, _-_, _*_, _^_, _≤_, _<_}
 use native.Mathlib.Numerals.{add-one}
 use native.Mathlib.Omega.{arith}
 use borrow.Author.Tests.{not-true, not-false}
-use lib.IntN.{ℤ, pos, negℤ, natAbs}
+use lib.IntN.{ℤ, natAbs}
 use lib.ListN.{set}
 use mir.Syntax.{w64}
 use mir.Val.{toZ, ofZ}
 use mir.Facts.{toZ-ofZ}
-use Rattle.integers.specs.Order.{natAbs-≤}
 use Rattle.model.specs.Lists.{at, every}
 use Rattle.model.specs.ListsLaws.{every-none, every-more, every-at, every-no}
 use Rattle.model.specs.Delays.{delayAfter, delaysTo, delays}
-use Rattle.model.specs.Questions.{within, q12}
-use Rattle.model.specs.QuestionsLaws.{within-so}
+use Rattle.model.specs.Questions.{q12}
 use Rattle.delays.specs.DelaysLaws.{delay-kept, delay-from}
-use Rattle.delays.specs.Solved.{unsolved, solvedOf}
-use Rattle.delays.specs.SolvedLaws.{next-of}
+use Rattle.delays.specs.Solved.{held, unsolved, solvedOf}
+use Rattle.delays.specs.SolvedLaws.{held-small, next-of}
 use Rattle.delays.proofs.solve.Statement.{statement}
 use Rattle.delays.proofs.solve.Tie as tie
-
--- a delay in its bounds
-abbrev held : ℤ → Bool
-held z = within (negℤ (pos (8 * 10 ^ 9))) (pos (8 * 10 ^ 9)) z
 
 abbrev Inv-loop : tie.InvT-loop
 Inv-loop m b q p₀ l₀ p l = (l ≤ m) × (p ≡ delaysTo b q l) × (every l (λ k. held (at (delays m b q) k)) ≡ true)
@@ -58,8 +52,7 @@ module _ (c : tie.After-p Inv-loop μ-loop) where
   unfolding delays
   past-held k h =
       let e = ap (λ (x : List ℤ). at x k) (c .before .before .loop .inv .1) ∙ sym (delay-kept b q m l k (omega (arith, inside)) h) in
-      let w = within-so _ _ (at (delays m b q) k) (every-at (λ k. held (at (delays m b q) k)) l k (c .before .before .loop .inv .2) h) in
-      rw e (natAbs-≤ .1 (w .1, w .0))
+      rw e (held-small (at (delays m b q) k) (every-at (λ k. held (at (delays m b q) k)) l k (c .before .before .loop .inv .2) h))
 
 -- the delay that is solved
 module _ (c : tie.After-delay Inv-loop μ-loop) where

@@ -8,12 +8,14 @@
  *
  * Sets. A set has m accident years, i from 1 to m, and cells (i,j) with delays j from 0 to m - i.
  * Amounts are whole currency units. A triangle is 400 numbers, cell (i,j) at PARDESUL_PLACE(i, j).
+ * A set is of one line of cover, a number below PARDESUL_LINES; no amount depends on it.
  * Each share, ultimate, delay, weight, row base, cell and amount due is a quotient rounded to the
  * nearest whole number, halves to the even one.
  *
  * Files. A file has a record of 16 bytes for each cell of counts and paid, or of counts, paid and
  * incurred, once and in any order: a byte for the kind (0 count, 1 paid, 2 incurred), one for i,
- * one for j, five that are 0, and the value as a signed 64-bit number, least byte first.
+ * one for j, one for the line of cover, the same in all records, four that are 0, and the value as
+ * a signed 64-bit number, least byte first.
  *
  * Journals. A journal is a list of 0 to PARDESUL_JOURNAL_MOST transactions of 16 bytes: a claim
  * number below PARDESUL_CLAIMS in four, least byte first, a byte for the kind (0 reported, 1 paid),
@@ -28,7 +30,7 @@
  *
  * Answers. A call hands back its refusal number, but for pardesul_respond and pardesul_tally_add:
  * PARDESUL_ACCEPTED, or the number of the first question that got a no. A refused call writes
- * nothing: every output stays as it was.
+ * nothing: every output stays as it was. *line gets the line of cover of the file's set.
  *
  * Memory. Pointers are not null, each is to as many places as its declaration says, and the memory
  * lent to one call does not overlap, but for memory that is only read. An empty file, journal, list
@@ -46,8 +48,8 @@
 extern "C" {
 #endif
 
-/* The version, 1,000,000 x major + 1,000 x minor + patch: 0.7.0. */
-#define PARDESUL_VERSION 7000
+/* The version, 1,000,000 x major + 1,000 x minor + patch: 0.8.0. */
+#define PARDESUL_VERSION 8000
 
 /* The bytes of stack that are enough for each call, and for any of them: so many a thread has to
  * have free when it makes the call. No theorem says so: the most that a call takes was measured
@@ -76,6 +78,9 @@ extern "C" {
 /* The length in bytes of a set's file. */
 #define PARDESUL_FILE_LENGTH(m, has_incurred)                                                      \
   (((has_incurred) ? (size_t)24 : (size_t)16) * (m) * ((m) + 1))
+
+/* The lines of cover: they are numbered from 0 to PARDESUL_LINES - 1. */
+#define PARDESUL_LINES 6
 
 /* The numbers of a list by accident year or delay: year i stands at place i - 1, delay j at place
  * j, and zeros behind the last one. */
@@ -135,8 +140,9 @@ enum pardesul_refusal {
   PARDESUL_REFUSED_YEARS = 1,
   /* the length is not that of a set */
   PARDESUL_REFUSED_LENGTH = 2,
-  /* a record has a kind that the length does not allow, a cell outside the triangle, or a byte 3 to
-   * 7 that is not 0 */
+  /* a record has a kind that the length does not allow, a cell outside the triangle, a line of
+   * cover that is above 5 or not the first record's, or a byte 4 to 7 that is not 0; or the line to
+   * be written is above 5 */
   PARDESUL_REFUSED_RECORD = 3,
   /* a cell is missing or stands there more than once */
   PARDESUL_REFUSED_CELL = 4,
@@ -204,17 +210,18 @@ typedef struct pardesul_date {
 /* Reads a file of file_length bytes. counts, paid and incurred get the set's cells, with zeros in
  * the other places; *has_incurred says whether incurred is there, and incurred is all zeros where
  * it is not. Refuses with 1 to 5. */
-uint64_t pardesul_read_set(const uint8_t *file, size_t file_length, size_t m, bool *has_incurred,
-                           int64_t counts[PARDESUL_LENT(PARDESUL_CELLS)],
+uint64_t pardesul_read_set(const uint8_t *file, size_t file_length, size_t m, uint64_t *line,
+                           bool *has_incurred, int64_t counts[PARDESUL_LENT(PARDESUL_CELLS)],
                            int64_t paid[PARDESUL_LENT(PARDESUL_CELLS)],
                            int64_t incurred[PARDESUL_LENT(PARDESUL_CELLS)]);
 
 /* Writes a set's file, PARDESUL_FILE_LENGTH(m, has_incurred) bytes, to the front of out, which has
  * out_length bytes; those past the file stay. Only the set's cells are looked at: of incurred none
  * where has_incurred is false, but it is lent then too. Records go by kind, then accident year,
- * then delay, each ascending: sets of one m have the same file just where their cells are the same
- * and both have incurred or neither. Refuses with 1, 5 and 7. */
-uint64_t pardesul_write_set(size_t m, bool has_incurred,
+ * then delay, each ascending, and each has the line: sets of one m have the same file just where
+ * their lines and cells are the same and both have incurred or neither. Refuses with 1, 3 for the
+ * line, 5 and 7, in this order. */
+uint64_t pardesul_write_set(size_t m, uint64_t line, bool has_incurred,
                             const int64_t counts[PARDESUL_LENT(PARDESUL_CELLS)],
                             const int64_t paid[PARDESUL_LENT(PARDESUL_CELLS)],
                             const int64_t incurred[PARDESUL_LENT(PARDESUL_CELLS)], uint8_t *out,
@@ -223,7 +230,7 @@ uint64_t pardesul_write_set(size_t m, bool has_incurred,
 /* The chain ladder of counts and paid: b shares of counts and n ultimate counts; q shares of
  * payments, g the same up to each delay, and u ultimate payments. Shares are in billionths. Refuses
  * with 1 to 5 and 9 to 11. */
-uint64_t pardesul_shares(const uint8_t *file, size_t file_length, size_t m,
+uint64_t pardesul_shares(const uint8_t *file, size_t file_length, size_t m, uint64_t *line,
                          int64_t b[PARDESUL_LENT(PARDESUL_LIST)],
                          int64_t n[PARDESUL_LENT(PARDESUL_LIST)],
                          int64_t q[PARDESUL_LENT(PARDESUL_LIST)],
@@ -232,7 +239,7 @@ uint64_t pardesul_shares(const uint8_t *file, size_t file_length, size_t m,
 
 /* The delays in billionths, p(l) at place l; one may be negative. Refuses with 1 to 5 and 9 to
  * 12. */
-uint64_t pardesul_delays(const uint8_t *file, size_t file_length, size_t m,
+uint64_t pardesul_delays(const uint8_t *file, size_t file_length, size_t m, uint64_t *line,
                          int64_t p[PARDESUL_LENT(PARDESUL_LIST)]);
 
 /* Whether delays from elsewhere are delays of the set. There are `number` of them, any numbers, in
@@ -242,15 +249,15 @@ uint64_t pardesul_delays(const uint8_t *file, size_t file_length, size_t m,
  * a delay's quotient is a half, so are delays that go on from its other neighbour. Refuses with 1
  * to 5, 9 to 11 and 20. */
 uint64_t pardesul_check_delays(const uint8_t *file, size_t file_length, size_t m,
-                               const int64_t *delays, size_t number);
+                               const int64_t *delays, size_t number, uint64_t *line);
 
 /* The claim costs: mu, the mean cost of year 1; factors, f(j) of paid at place j - 1; and the
  * inflation of year i at place i - 1: what it is, an enum pardesul_inflation, in kinds, and its
  * ratio to mu in ratios. Factors past the last one are 0, ratios are 0 where there is none, and
  * kinds past the last year are PARDESUL_INFLATION_NO_PAYMENTS_YET. Refuses with 1 to 5 and 9 to
  * 11. */
-uint64_t pardesul_claim_costs(const uint8_t *file, size_t file_length, size_t m, double *mu,
-                              double factors[PARDESUL_LENT(PARDESUL_LIST)],
+uint64_t pardesul_claim_costs(const uint8_t *file, size_t file_length, size_t m, uint64_t *line,
+                              double *mu, double factors[PARDESUL_LENT(PARDESUL_LIST)],
                               uint8_t kinds[PARDESUL_LENT(PARDESUL_LIST)],
                               double ratios[PARDESUL_LENT(PARDESUL_LIST)]);
 
@@ -261,7 +268,7 @@ uint64_t pardesul_claim_costs(const uint8_t *file, size_t file_length, size_t m,
  * else 0. method is an enum pardesul_method, basis an enum pardesul_basis; other numbers are
  * refused. Refuses with 1 to 7 and 9 to 14. */
 uint64_t pardesul_forecast(const uint8_t *file, size_t file_length, size_t m, uint64_t method,
-                           uint64_t basis, int64_t *out, size_t out_length,
+                           uint64_t basis, uint64_t *line, int64_t *out, size_t out_length,
                            int64_t leftovers[PARDESUL_LENT(PARDESUL_LIST)]);
 
 /* The forecast with given delays, those of pardesul_check_delays, in place of the ones that
@@ -270,7 +277,8 @@ uint64_t pardesul_forecast(const uint8_t *file, size_t file_length, size_t m, ui
  * this order. */
 uint64_t pardesul_forecast_with_delays(const uint8_t *file, size_t file_length, size_t m,
                                        uint64_t method, uint64_t basis, const int64_t *delays,
-                                       size_t number, int64_t *out, size_t out_length,
+                                       size_t number, uint64_t *line, int64_t *out,
+                                       size_t out_length,
                                        int64_t leftovers[PARDESUL_LENT(PARDESUL_LIST)]);
 
 /* The back-test: the set without its latest c calendar years is forecast, and RBNS + IBNR held
@@ -278,16 +286,17 @@ uint64_t pardesul_forecast_with_delays(const uint8_t *file, size_t file_length, 
  * overall are the sums of absolute errors by cell, by calendar year and of the total. Refuses with
  * 1 to 6, 8, and 9 to 14 of the set that is left. */
 uint64_t pardesul_back_test(const uint8_t *file, size_t file_length, size_t m, uint64_t method,
-                            uint64_t basis, size_t c, uint64_t *cells, uint64_t *cellwise,
-                            uint64_t *yearwise, uint64_t *overall);
+                            uint64_t basis, size_t c, uint64_t *line, uint64_t *cells,
+                            uint64_t *cellwise, uint64_t *yearwise, uint64_t *overall);
 
 /* The closing page: the forecast as `closing` prints it, but in columns. PARDESUL_PAGE_LENGTH(m)
  * bytes go to the front of page, which has page_length bytes; those past them stay. They are 2m
  * lines of 67 characters and a newline: a year of 4 characters and three amounts of 21, RBNS, IBNR
  * and their sum, all right-aligned with spaces, a minus sign right before a negative amount. The
  * first line has the words YEAR, RBNS, IBNR and TOTAL, then come the calendar years 1 to 2m - 2,
- * and the last line has ALL as its year, and the totals. method and basis are those of
- * pardesul_forecast. Refuses with 1 to 6, 15 and 9 to 14, in this order. */
+ * and the last line has ALL as its year, and the totals. The page is the same for every line of
+ * cover. method and basis are those of pardesul_forecast. Refuses with 1 to 6, 15 and 9 to 14, in
+ * this order. */
 uint64_t pardesul_closing_page(const uint8_t *file, size_t file_length, size_t m, uint64_t method,
                                uint64_t basis, uint8_t *page, size_t page_length);
 
@@ -301,7 +310,7 @@ uint64_t pardesul_closing_page(const uint8_t *file, size_t file_length, size_t m
 uint64_t pardesul_cash_in_window(const uint8_t *file, size_t file_length, size_t m, uint64_t method,
                                  uint64_t basis, const pardesul_date *valuation,
                                  const pardesul_date *start, const pardesul_date *end,
-                                 int64_t *amount);
+                                 uint64_t *line, int64_t *amount);
 
 /* Replays a journal of journal_length bytes. *tally gets each reported claim's accident year, the
  * reports counted and the payments added up by cell, and the last calendar year; it starts from

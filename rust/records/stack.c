@@ -16,6 +16,7 @@
 #include <ucontext.h>
 
 #define YEARS 20
+#define LINE (PARDESUL_LINES - 1)
 #define LENGTH PARDESUL_FILE_LENGTH(YEARS, true)
 #define FILLED 0xa5
 
@@ -28,7 +29,7 @@ static int64_t entries[PARDESUL_ENTRIES(YEARS)], years[2][PARDESUL_YEARS];
 static double mu, factors[PARDESUL_LIST], ratios[PARDESUL_LIST];
 static uint8_t kinds[PARDESUL_LIST], text[PARDESUL_TEXT], copy[LENGTH];
 static uint8_t page[PARDESUL_PAGE_LENGTH(YEARS)];
-static uint64_t sums[4];
+static uint64_t lent_line, sums[4];
 static bool has_incurred;
 static pardesul_journal_tally journal_tally;
 
@@ -62,28 +63,31 @@ static void nothing(void) {}
     for (uint64_t basis = 0; basis <= 2; basis++)
 
 static void read_set(void) {
-  EACH_INPUT answer(pardesul_read_set(in->file, in->length, m, &has_incurred, triangles[0],
-                                      triangles[1], triangles[2]));
+  EACH_INPUT answer(pardesul_read_set(in->file, in->length, m, &lent_line, &has_incurred,
+                                      triangles[0], triangles[1], triangles[2]));
 }
 
+/* Line PARDESUL_LINES is one too many. */
 static void write_set(void) {
   for (size_t m = YEARS; m <= YEARS + 1; m++) {
-    for (int64_t count = -1; count <= 1; count++) {
-      counts[0] = count;
-      answer(pardesul_write_set(m, true, counts, paid, incurred, copy, sizeof copy));
-      answer(pardesul_write_set(m, true, counts, paid, incurred, copy, sizeof copy - 1));
-      answer(pardesul_write_set(m, false, counts, paid, incurred, copy, sizeof copy));
+    for (uint64_t on = LINE; on <= PARDESUL_LINES; on++) {
+      for (int64_t count = -1; count <= 1; count++) {
+        counts[0] = count;
+        answer(pardesul_write_set(m, on, true, counts, paid, incurred, copy, sizeof copy));
+        answer(pardesul_write_set(m, on, true, counts, paid, incurred, copy, sizeof copy - 1));
+        answer(pardesul_write_set(m, on, false, counts, paid, incurred, copy, sizeof copy));
+      }
     }
   }
 }
 
 static void shares(void) {
-  EACH_INPUT answer(pardesul_shares(in->file, in->length, m, lists[0], lists[1], lists[2],
-                                    lists[3], lists[4]));
+  EACH_INPUT answer(pardesul_shares(in->file, in->length, m, &lent_line, lists[0], lists[1],
+                                    lists[2], lists[3], lists[4]));
 }
 
 static void delays(void) {
-  EACH_INPUT answer(pardesul_delays(in->file, in->length, m, lists[0]));
+  EACH_INPUT answer(pardesul_delays(in->file, in->length, m, &lent_line, lists[0]));
 }
 
 /* All of them, and one too few. */
@@ -93,16 +97,17 @@ static void delays(void) {
 
 static void check_delays(void) {
   EACH_INPUT EACH_GIVEN answer(
-      pardesul_check_delays(in->file, in->length, m, given[list], number));
+      pardesul_check_delays(in->file, in->length, m, given[list], number, &lent_line));
 }
 
 static void claim_costs(void) {
-  EACH_INPUT answer(pardesul_claim_costs(in->file, in->length, m, &mu, factors, kinds, ratios));
+  EACH_INPUT answer(
+      pardesul_claim_costs(in->file, in->length, m, &lent_line, &mu, factors, kinds, ratios));
 }
 
 static void forecast(void) {
   EACH_INPUT EACH_METHOD for (size_t less = 0; less <= 1; less++) {
-    answer(pardesul_forecast(in->file, in->length, m, method, basis, entries,
+    answer(pardesul_forecast(in->file, in->length, m, method, basis, &lent_line, entries,
                              PARDESUL_ENTRIES(YEARS) - less, lists[0]));
   }
 }
@@ -110,15 +115,15 @@ static void forecast(void) {
 static void forecast_with_delays(void) {
   EACH_INPUT EACH_METHOD EACH_GIVEN for (size_t less = 0; less <= 1; less++) {
     answer(pardesul_forecast_with_delays(in->file, in->length, m, method, basis, given[list],
-                                         number, entries, PARDESUL_ENTRIES(YEARS) - less,
-                                         lists[0]));
+                                         number, &lent_line, entries,
+                                         PARDESUL_ENTRIES(YEARS) - less, lists[0]));
   }
 }
 
 static void back_test(void) {
   EACH_INPUT EACH_METHOD for (size_t c = 0; c < YEARS; c++) {
-    answer(pardesul_back_test(in->file, in->length, m, method, basis, c, sums, sums + 1, sums + 2,
-                              sums + 3));
+    answer(pardesul_back_test(in->file, in->length, m, method, basis, c, &lent_line, sums, sums + 1,
+                              sums + 2, sums + 3));
   }
 }
 
@@ -136,7 +141,7 @@ static void cash_in_window(void) {
   int64_t amount;
   EACH_INPUT EACH_METHOD for (size_t end = 0; end <= 2; end++) {
     answer(pardesul_cash_in_window(in->file, in->length, m, method, basis, dates, dates,
-                                   dates + end, &amount));
+                                   dates + end, &lent_line, &amount));
   }
 }
 
@@ -241,8 +246,8 @@ static void fill(int64_t *triangle, int64_t first, int64_t second) {
 static struct input *add(bool with_incurred) {
   struct input *in = inputs + input_number++;
   in->length = PARDESUL_FILE_LENGTH(YEARS, with_incurred);
-  if (pardesul_write_set(YEARS, with_incurred, counts, paid, incurred, in->file, in->length) !=
-      PARDESUL_ACCEPTED)
+  if (pardesul_write_set(YEARS, LINE, with_incurred, counts, paid, incurred, in->file,
+                         in->length) != PARDESUL_ACCEPTED)
     exit(1);
   return in;
 }
@@ -255,6 +260,7 @@ static void add_all(void) {
   add(false);
   add(true)->length--;
   add(true)->file[0] = 3;
+  add(true)->file[LENGTH - 16 + 3] = 0;
   struct input *in = add(true);
   memcpy(in->file, in->file + 16, 16);
   add(true)->file[15] = 0xff;
@@ -281,7 +287,8 @@ static void add_all(void) {
 
 /* The delays of the first file, which is accepted. */
 static void give_delays(void) {
-  if (pardesul_delays(inputs[0].file, inputs[0].length, YEARS, given[0]) != PARDESUL_ACCEPTED)
+  if (pardesul_delays(inputs[0].file, inputs[0].length, YEARS, &lent_line, given[0]) !=
+      PARDESUL_ACCEPTED)
     exit(1);
   memcpy(given[1], given[0], sizeof *given);
   given[1][YEARS - 1]++;
@@ -295,7 +302,8 @@ int main(void) {
     unsigned answers;
   } calls[] = {
       {"read_set", read_set, PARDESUL_STACK_READ_SET, FROM_TO(0, 5)},
-      {"write_set", write_set, PARDESUL_STACK_WRITE_SET, 1u << 0 | 1u << 1 | 1u << 5 | 1u << 7},
+      {"write_set", write_set, PARDESUL_STACK_WRITE_SET,
+       1u << 0 | 1u << 1 | 1u << 3 | 1u << 5 | 1u << 7},
       {"shares", shares, PARDESUL_STACK_SHARES, FROM_TO(0, 5) | FROM_TO(9, 11)},
       {"delays", delays, PARDESUL_STACK_DELAYS, FROM_TO(0, 5) | FROM_TO(9, 12)},
       {"check_delays", check_delays, PARDESUL_STACK_CHECK_DELAYS,

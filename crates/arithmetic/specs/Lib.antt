@@ -5,4 +5,5 @@ pub mod Signed
 pub mod Wide
 pub mod Capped
 pub mod Words
+pub mod Running
 pub mod Truncated

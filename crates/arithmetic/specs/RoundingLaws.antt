@@ -19,8 +19,12 @@ use Rattle.integers.specs.Linear.{_&_}
 use Rattle.integers.specs.Monomials.{nlin, nstmt}
 use Rattle.integers.specs.Order.{<ℤ-or-≥, <ℤ-≤ℤ, <ℤ-suc, *ℤ-mono-r, ≤ℤ-antisym, nonneg, pos-mono, natAbs-≤, natAbs-mono, natAbs-negℤ}
 use Rattle.integers.specs.Absolute.{∣_∣}
-use Rattle.model.specs.Rounding.{evenOf, nearest, r, WithinHalf}
+use Rattle.model.specs.Rounding.{S, evenOf, nearest, r, WithinHalf}
 use Rattle.model.specs.Tests.{by-test}
+
+pub S-pos : pos 0 ⋖ S
+unfolding S
+S-pos = omega (arith, ints)
 
 -- ---- in ℕ: twice the distance is at most b
 

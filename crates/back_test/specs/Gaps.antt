@@ -8,9 +8,9 @@ use Rattle.integers.specs.Sums.{sum}
 use Rattle.model.specs.Lists.{tabulate, at}
 use Rattle.model.specs.Records.{cell}
 use Rattle.model.specs.BackTest.{compared}
-use Rattle.cells.specs.declared.cell.Cell.{Cell}
+use Rattle.cells.specs.declared.Cell.{Cell}
 use Rattle.cells.specs.CellOf.{sumsFrom, cellOf}
-use Rattle.cells.specs.Ready.{yearWeights}
+use Rattle.years.specs.Ready.{yearWeights}
 
 -- the sizes m of a set and n of the cut one, and a paid triangle of size m
 pub record Sizes (m n : ℕ) (paid : List ℤ) : Type 0 where

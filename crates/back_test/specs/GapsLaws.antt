@@ -17,9 +17,9 @@ use Rattle.model.specs.BackTest.{compared, cellNumber}
 use Rattle.model.specs.Agreement.{comparedCells, numbersAgree, cell-numbers}
 use Rattle.model.specs.Tests.{by-test}
 use Rattle.back_test.specs.Gaps.{Sizes, cellFrom, gapFrom, gapAt, gaps, SmallGaps}
-use Rattle.cells.specs.declared.cell.Cell.{Cell}
-use Rattle.cells.specs.Ready.{Ready}
-use Rattle.cells.specs.ReadyLaws.{year}
+use Rattle.cells.specs.declared.Cell.{Cell}
+use Rattle.years.specs.Ready.{Ready}
+use Rattle.years.specs.ReadyLaws.{year}
 use Rattle.cells.specs.SmallLaws.{cell-small}
 
 -- what a compared cell is

@@ -20,7 +20,7 @@ use Rattle.model.specs.Calls.{backTestRefusal, backTestOf, acceptedBackTest, re
 use Rattle.model.specs.declared.TriangleSet.{TriangleSet}
 use Rattle.chain_ladder.specs.Sums.{Small}
 use Rattle.chain_ladder.specs.Valid.{Amounts}
-use Rattle.cells.specs.declared.cell.Cell.{Cell}
+use Rattle.cells.specs.declared.Cell.{Cell}
 use Rattle.forecast.specs.SetForecast.{InRange, setRefusal}
 use Rattle.back_test.specs.Gaps.{Sizes, gapFrom, gaps}
 use Rattle.back_test.specs.GapsLaws.{gaps-at}
@@ -54,9 +54,9 @@ module _ {m : ℕ} {set : List ℤ} {method c : ℕ} (ok : InRange m set method)
   pub cut-ok : InRange (m - c) set method
   cut-ok = record { counts = fewer (ok .counts); paid = fewer (ok .paid); known = ok .known; incurred = λ n. smaller (ok .incurred n) }
 
-  module _ (has : Bool) where
+  module _ (like : TriangleSet) where
     abbrev lent : TriangleSet
-    lent = lentSet has set
+    lent = lentSet like set
 
     abbrev size : ℕ
     size = m - c
@@ -93,12 +93,12 @@ module _ {m : ℕ} {set : List ℤ} {method c : ℕ} (ok : InRange m set method)
             ibnr-same cut (delaysOf size lent) method (suc k) j (omega arith) h,
           )
 
-      pub test-yes : setRefusal size lent method ≡ 0 → {d : List ℤ} {k x y z : ℕ} → d ≡ gaps m size cells (triangleIn 1 set) → k ≡ cellNumber c size
+      pub test-yes : setRefusal size lent method ≡ 0 → {line : ℕ} → line ≡ like .line → {d : List ℤ} {k x y z : ℕ} → d ≡ gaps m size cells (triangleIn 1 set) → k ≡ cellNumber c size
           → x ≡ cellwise size (cell d) → y ≡ yearwise size c (cell d) → z ≡ overall size (cell d)
-          → acceptedBackTest k x y z ≡ setTest m lent c method basis
+          → acceptedBackTest line k x y z ≡ setTest m lent c method basis
       unfolding setTest backTestOf
-      test-yes accepted d-is a b y t =
-          rw (a, b, y, t, d-is, same-by-cell size made meant same, same-by-year size made meant same c, same-in-all size made meant same, cut-refusal ∙ accepted)
+      test-yes accepted l d-is a b y t =
+          rw (l, a, b, y, t, d-is, same-by-cell size made meant same, same-by-year size made meant same c, same-in-all size made meant same, cut-refusal ∙ accepted)
 
 -- ---- of a file: the refusal, question by question
 module _ (m : ℕ) (f : List ℕ) (c method basis : ℕ) where

@@ -1,8 +1,8 @@
 // The gaps: forecast less paid, of each cell that is compared.
-use cells::cell::open_cell;
-use cells::weights::weights;
-use cells::years::one_more_delay;
-use cells::years::whole_sums;
+use cells::open_cell;
+use years::one_more_delay;
+use years::weights::weights;
+use years::whole_sums;
 ghost use mathlib.Core.Path.{_≡_};
 ghost use Prim.Native.Nat.{ℕ, _+_, _-_, _*_, _^_, _≤_, _<_};
 ghost use lib.IntN.{ℤ, pos, natAbs};
@@ -10,7 +10,7 @@ ghost use Rattle.model.specs.Lists.{listed};
 ghost use Rattle.model.specs.Calls.{zeros};
 ghost use Rattle.model.specs.Lent.{triangleIn};
 ghost use Rattle.cells.specs.CellOf.{Year, cellOf};
-ghost use Rattle.cells.specs.Ready.{Ready};
+ghost use Rattle.years.specs.Ready.{Ready};
 ghost use Rattle.back_test.specs.Gaps.{Sizes, gapFrom, cellFrom, gaps};
 
 // The gaps of year i's cells that are compared, cell (i,j) at 20 × (i-1) + j, behind those of the

@@ -13,10 +13,10 @@ use errors::yearwise;
 use gaps::gaps;
 use model::BackTestAnswer;
 ghost use mathlib.Core.Path.{_≡_};
-ghost use mathlib.Core.Bool.{Bool};
 ghost use Prim.Native.Nat.{_+_, _≤_};
 ghost use Rattle.model.specs.Calls.{refusedBackTest, backTestAnswer};
 ghost use Rattle.model.specs.Lent.{lentSet};
+ghost use Rattle.model.specs.declared.TriangleSet.{TriangleSet};
 ghost use Rattle.forecast.specs.SetForecast.{InRange};
 ghost use Rattle.back_test.specs.SetTest.{setTest};
 
@@ -26,6 +26,7 @@ fn refused(number: u64) -> BackTestAnswer
 {
     BackTestAnswer {
         refusal: number,
+        line: 0,
         cells: 0,
         cellwise: 0,
         yearwise: 0,
@@ -33,10 +34,17 @@ fn refused(number: u64) -> BackTestAnswer
     }
 }
 
-// Questions 9 to 14 of the cut set, and the back-test of a set.
-fn test_set(set: &[i64; 1200], m: usize, method: u64, basis: u64, c: usize) -> BackTestAnswer
+// Questions 9 to 14 of the cut set, and the back-test of a set on a line.
+fn test_set(
+    set: &[i64; 1200],
+    line: u64,
+    m: usize,
+    method: u64,
+    basis: u64,
+    c: usize,
+) -> BackTestAnswer
     requires { ⌜ InRange m (now set) method × (1 ≤ c) × (c + 2 ≤ m) ⌝ }
-    ensures { λ r. ⌜ ((has : Bool) → r ≡ setTest m (lentSet has (now (set .entry))) c method basis) ⌝ }
+    ensures { λ r. ⌜ ((like : TriangleSet) → line ≡ like .line → r ≡ setTest m (lentSet like (now (set .entry))) c method basis) ⌝ }
 {
     let n = m - c;
     let mut count_latest = [0i64; 20];
@@ -90,6 +98,7 @@ fn test_set(set: &[i64; 1200], m: usize, method: u64, basis: u64, c: usize) -> B
     let overall = overall(&d, n);
     BackTestAnswer {
         refusal: 0,
+        line,
         cells,
         cellwise,
         yearwise,
@@ -113,5 +122,5 @@ pub fn back_test(file: &[u8], m: usize, method: u64, basis: u64, c: usize) -> Ba
     if m - 2 < c {
         return refused(8);
     }
-    test_set(&set, m, method, basis, c)
+    test_set(&set, triangles::line(file), m, method, basis, c)
 }

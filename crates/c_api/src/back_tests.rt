@@ -11,12 +11,14 @@ pub extern "C" fn pardesul_back_test(
     method: u64,
     basis: u64,
     c: usize,
+    line: &mut u64,
     cells: &mut u64,
     cellwise: &mut u64,
     yearwise: &mut u64,
     overall: &mut u64,
 ) -> u64
     ensures { λ r. ⌜ r ≡ backTestAnswer m (now (file .entry)) c method basis .refusal ⌝ }
+    ensures { λ r. ⌜ now (line .exit) ≡ ifAccepted r (backTestAnswer m (now (file .entry)) c method basis .line) (now (line .entry)) ⌝ }
     ensures { λ r. ⌜ now (cells .exit) ≡ ifAccepted r (backTestAnswer m (now (file .entry)) c method basis .cells) (now (cells .entry)) ⌝ }
     ensures { λ r. ⌜ now (cellwise .exit) ≡ ifAccepted r (backTestAnswer m (now (file .entry)) c method basis .cellwise) (now (cellwise .entry)) ⌝ }
     ensures { λ r. ⌜ now (yearwise .exit) ≡ ifAccepted r (backTestAnswer m (now (file .entry)) c method basis .yearwise) (now (yearwise .entry)) ⌝ }
@@ -27,6 +29,7 @@ pub extern "C" fn pardesul_back_test(
     if refusal != 0 {
         return refusal;
     }
+    *line = answer.line;
     *cells = answer.cells;
     *cellwise = answer.cellwise;
     *yearwise = answer.yearwise;

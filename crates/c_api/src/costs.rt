@@ -32,12 +32,14 @@ fn ratio(value: Inflation) -> f64
 pub extern "C" fn pardesul_claim_costs(
     file: &[u8],
     m: usize,
+    line: &mut u64,
     mu: &mut f64,
     factors: &mut [f64; 20],
     kinds: &mut [u8; 20],
     ratios: &mut [f64; 20],
 ) -> u64
     ensures { λ r. ⌜ r ≡ claimCostsAnswer m (now (file .entry)) .refusal ⌝ }
+    ensures { λ r. ⌜ now (line .exit) ≡ ifAccepted r (claimCostsAnswer m (now (file .entry)) .line) (now (line .entry)) ⌝ }
     ensures { λ r. ⌜ now (mu .exit) ≡ ifAccepted r (claimCostsAnswer m (now (file .entry)) .costs .mu) (now (mu .entry)) ⌝ }
     ensures { λ r. ⌜ now (factors .exit) ≡ ifAccepted r (claimCostsAnswer m (now (file .entry)) .costs .factors) (now (factors .entry)) ⌝ }
     ensures { λ r. ⌜ now (kinds .exit) ≡ ifAccepted r (kindsOf (claimCostsAnswer m (now (file .entry)) .costs .inflations)) (now (kinds .entry)) ⌝ }
@@ -51,6 +53,7 @@ pub extern "C" fn pardesul_claim_costs(
     let list = answer.costs.factors;
     *factors = list;
     *mu = answer.costs.mu;
+    *line = answer.line;
     let inflations = answer.costs.inflations;
     *kinds = [0u8; 20];
     *ratios = [0.0; 20];

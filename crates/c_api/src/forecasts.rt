@@ -13,15 +13,19 @@ pub extern "C" fn pardesul_forecast(
     m: usize,
     method: u64,
     basis: u64,
+    line: &mut u64,
     out: &mut [i64],
     leftovers: &mut [i64; 20],
 ) -> u64
     ensures { λ r. ⌜ r ≡ forecastAnswer m (now (file .entry)) method basis (length (now (out .entry))) .refusal ⌝ }
+    ensures { λ r. ⌜ now (line .exit) ≡ ifAccepted r (forecastAnswer m (now (file .entry)) method basis (length (now (out .entry))) .line) (now (line .entry)) ⌝ }
     ensures { λ _. ⌜ now (out .exit) ≡ forecastOutput m (now (file .entry)) method basis (now (out .entry)) ⌝ }
     ensures { λ r. ⌜ now (leftovers .exit) ≡ ifAccepted r (forecastAnswer m (now (file .entry)) method basis (length (now (out .entry))) .leftovers) (now (leftovers .entry)) ⌝ }
     ensures { λ r. ⌜ (r ≡ 0 → method ≡ 0 → basis ≡ 1 → NearReserves m (setOf m (now (file .entry)) .paid) (now (out .exit))) ⌝ }
 {
-    forecast::forecast_into(file, m, method, basis, leftovers, out)
+    let refusal = forecast::forecast_into(file, m, method, basis, leftovers, out);
+    triangles::store_line(file, refusal, line);
+    refusal
 }
 
 // The forecast by delays that are given.
@@ -32,15 +36,27 @@ pub extern "C" fn pardesul_forecast_with_delays(
     method: u64,
     basis: u64,
     delays: &[i64],
+    line: &mut u64,
     out: &mut [i64],
     leftovers: &mut [i64; 20],
 ) -> u64
     ensures { λ r. ⌜ r ≡ forecastWithAnswer m (now (file .entry)) method basis (now (delays .entry)) (length (now (out .entry))) .refusal ⌝ }
+    ensures { λ r. ⌜ now (line .exit) ≡ ifAccepted r (forecastWithAnswer m (now (file .entry)) method basis (now (delays .entry)) (length (now (out .entry))) .line) (now (line .entry)) ⌝ }
     ensures { λ _. ⌜ now (out .exit) ≡ forecastWithOutput m (now (file .entry)) method basis (now (delays .entry)) (now (out .entry)) ⌝ }
     ensures { λ r. ⌜ now (leftovers .exit) ≡ ifAccepted r (forecastWithAnswer m (now (file .entry)) method basis (now (delays .entry)) (length (now (out .entry))) .leftovers) (now (leftovers .entry)) ⌝ }
     ensures { λ r. ⌜ (r ≡ 0 → method ≡ 0 → basis ≡ 1 → NearReserves m (setOf m (now (file .entry)) .paid) (now (out .exit))) ⌝ }
 {
-    forecast::forecast_with_delays_into(file, m, method, basis, delays, leftovers, out)
+    let refusal = forecast::forecast_with_delays_into(
+        file,
+        m,
+        method,
+        basis,
+        delays,
+        leftovers,
+        out,
+    );
+    triangles::store_line(file, refusal, line);
+    refusal
 }
 
 // The calendar-year tally with one cell added.

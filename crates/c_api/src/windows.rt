@@ -25,9 +25,11 @@ pub extern "C" fn pardesul_cash_in_window<'a>(
     valuation: &'a [u64; 3],
     start: &'a [u64; 3],
     end: &'a [u64; 3],
+    line: &mut u64,
     amount: &mut i64,
 ) -> u64
     ensures { λ r. ⌜ r ≡ cashAnswer m (now (file .entry)) method basis (dateIn (now (valuation .entry))) (dateIn (now (start .entry))) (dateIn (now (end .entry))) .refusal ⌝ }
+    ensures { λ r. ⌜ now (line .exit) ≡ ifAccepted r (cashAnswer m (now (file .entry)) method basis (dateIn (now (valuation .entry))) (dateIn (now (start .entry))) (dateIn (now (end .entry))) .line) (now (line .entry)) ⌝ }
     ensures { λ r. ⌜ now (amount .exit) ≡ ifAccepted r (cashAnswer m (now (file .entry)) method basis (dateIn (now (valuation .entry))) (dateIn (now (start .entry))) (dateIn (now (end .entry))) .amount) (now (amount .entry)) ⌝ }
 {
     let answer = cash::cash_in_window(
@@ -45,5 +47,6 @@ pub extern "C" fn pardesul_cash_in_window<'a>(
     }
     let due = answer.amount;
     *amount = due;
+    *line = answer.line;
     0
 }

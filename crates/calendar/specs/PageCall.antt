@@ -1,7 +1,7 @@
 -- Laws of the closing page of a file: its refusal question by question, and its contract. Assumes
 -- nothing.
 use mathlib.Core.Path.{_≡_, sym, _∙_}
-use mathlib.Core.List.{List}
+use mathlib.Core.List.{List, [], _∷_}
 use Prim.Native.Nat.{ℕ, _*_, _≤_, _<_}
 use native.Mathlib.Nat.{zero-add}
 use borrow.Author.Tests.{le-leb, lt-leb}
@@ -12,15 +12,16 @@ use Rattle.model.specs.Records.{setOf}
 use Rattle.model.specs.Delays.{delaysOf}
 use Rattle.model.specs.CellsLaws.{size-most}
 use Rattle.model.specs.Overlay.{overlay}
-use Rattle.model.specs.Questions.{q15, ofForecast}
+use Rattle.model.specs.Questions.{q6, q15, ofForecast}
 use Rattle.model.specs.Calendar.{tallyOf}
 use Rattle.model.specs.Page.{pageText}
-use Rattle.model.specs.Calls.{zeros, callRefusal, forecastRefusal, forecastOutput, fileTally, fileText, pageRefusal, filePage, pageOutput}
+use Rattle.model.specs.Calls.{zeros, forecastRefusal, forecastOutput, fileTally, fileText, pageRefusal, filePage, pageOutput}
 use Rattle.model.specs.CallsLaws as CallsLaws
 use Rattle.model.specs.CallsLaws.{settingsRefusal, settings-so, if-refused}
 use Rattle.model.specs.declared.TriangleSet.{TriangleSet}
-use Rattle.triangles.specs.Order.{SameRecords, hasIncurred-order, questions-order, set-order}
-use Rattle.triangles.specs.CallsOrder.{output-order}
+use Rattle.triangles.specs.Order.{SameRecords}
+use Rattle.triangles.specs.Lines.{SameButLine, order-alike, call-alike}
+use Rattle.triangles.specs.CallsLines.{forecast-unseen, output-alike}
 use Rattle.chain_ladder.specs.Accepted.{valid-set}
 use Rattle.chain_ladder.specs.Valid.{few}
 use Rattle.forecast.specs.SetForecast.{Answered, setRefusal}
@@ -123,12 +124,20 @@ page-reads m f method basis before z =
     rw (z, take-at (filePage m f method basis) (drop (136 * m) before) (136 * m) (file-page-length m f method basis a), text-accepted m f method basis a)
     (tally-reads m (fileTally m f method basis) (s .0) (s .1) (file-printable m f method basis a))
 
--- ---- the order of the records changes nothing
+-- ---- neither the line (02, Job 7) nor the order of the records changes anything
+module _ {m : ℕ} {f g : List ℕ} (alike : SameButLine m f g) (method basis : ℕ) where
+  pub page-refusal-alike : (room : ℕ) → pageRefusal m f method basis room ≡ pageRefusal m g method basis room
+  unfolding pageRefusal
+  page-refusal-alike room =
+      call-alike alike (λ has. (6, q6 has method basis) ∷ (15, q15 m room) ∷ []) (λ s. ofForecast m s (delaysOf m s) method) (forecast-unseen m method)
+
+  pub page-alike : (before : List ℕ) → pageOutput m f method basis before ≡ pageOutput m g method basis before
+  unfolding pageOutput filePage fileTally
+  page-alike before = rw (page-refusal-alike (length before), output-alike alike method basis (zeros 1560))
+
 module _ (f g : List ℕ) (same : SameRecords f g) (m method basis : ℕ) where
   pub page-refusal-order : (room : ℕ) → pageRefusal m f method basis room ≡ pageRefusal m g method basis room
-  unfolding pageRefusal callRefusal
-  page-refusal-order room = rw (questions-order f g same m, hasIncurred-order f g same m, set-order f g same m)
+  page-refusal-order = page-refusal-alike (order-alike f g same m) method basis
 
   pub page-order : (before : List ℕ) → pageOutput m f method basis before ≡ pageOutput m g method basis before
-  unfolding pageOutput filePage fileTally
-  page-order before = rw (page-refusal-order (length before), output-order f g same m method basis (zeros 1560))
+  page-order = page-alike (order-alike f g same m) method basis

@@ -14,7 +14,8 @@ use Rattle.model.specs.declared.Run.{Run}
 use Rattle.model.specs.declared.Run.the-variants.{Number, Wrong}
 use Rattle.model.specs.declared.FirstLine.the-variants.{Asked, Refused}
 use Rattle.triangles.specs.Order.{SameRecords}
-use Rattle.triangles.specs.CallsOrder.{forecast-refusal-order, output-order}
+use Rattle.triangles.specs.Lines.{SameButLine, order-alike}
+use Rattle.triangles.specs.CallsLines.{forecast-refusal-alike, output-alike}
 use Rattle.text.specs.Runs.{run-within}
 use Rattle.calendar.specs.Cut.{cut-same}
 use Rattle.text.specs.Written.{Written, written-length, written-whole}
@@ -27,10 +28,13 @@ pub text-accepted : (m : ℕ) (f : List ℕ) (method basis : ℕ) → forecastRe
 unfolding fileText
 text-accepted m f method basis e = rw e
 
--- the order of the records changes nothing
-pub text-order : (f g : List ℕ) → SameRecords f g → (m method basis : ℕ) → fileText m f method basis ≡ fileText m g method basis
+-- neither the line (02, Job 7) nor the order of the records changes anything
+pub text-alike : {m : ℕ} {f g : List ℕ} → SameButLine m f g → (method basis : ℕ) → fileText m f method basis ≡ fileText m g method basis
 unfolding fileText fileTally
-text-order f g same m method basis = rw (forecast-refusal-order f g same m method basis 1560, output-order f g same m method basis (zeros 1560))
+text-alike alike method basis = rw (forecast-refusal-alike alike method basis 1560, output-alike alike method basis (zeros 1560))
+
+pub text-order : (f g : List ℕ) → SameRecords f g → (m method basis : ℕ) → fileText m f method basis ≡ fileText m g method basis
+text-order f g same m = text-alike (order-alike f g same m)
 
 -- ---- parts of a list
 pub file-part : (a : ℕ) (s : List ℕ) → take (length s - a) (drop a s) ≡ drop a s
@@ -75,6 +79,12 @@ module _ (s : List ℕ) where
   pub wrong-text : firstLine s ≡ Refused → closingText s ≡ refusalText 1
   unfolding closingText closingOf refusalOf
   wrong-text e = ap (closingOf s) e
+
+  -- inputs that ask the same of files that differ in the line at most, or in the order of records
+  pub respond-alike : (t : List ℕ) {m method basis a b : ℕ} → firstLine s ≡ Asked m method basis a → firstLine t ≡ Asked m method basis b → SameButLine m (drop a s) (drop b t)
+      → (before : List ℕ) → (respondAnswer s before ≡ respondAnswer t before) × (respondOutput s before ≡ respondOutput t before)
+  unfolding respondAnswer respondOutput closingText closingOf
+  respond-alike t {m} {method} {basis} e h alike before = rw (e, h, text-alike alike method basis) (refl, refl)
 
   -- the output is long enough for the text, or it is not
   module _ (before : List ℕ) where

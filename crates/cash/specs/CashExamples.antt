@@ -8,7 +8,7 @@ use Rattle.model.specs.Dates.{dayNumber}
 use Rattle.model.specs.Cash.{fullYears, yearTotal, yearsBefore, dueInYear, dueBefore, cashIn}
 use Rattle.model.specs.Calls.{cashRefusal, acceptedCash, refusedCash, cashAnswer}
 use Rattle.model.specs.Examples.{two}
-use Rattle.model.specs.Further.{K, opened-further}
+use Rattle.model.specs.Further.{K, relined, opened-further}
 use Rattle.model.specs.declared.Tally.{Tally}
 use Rattle.dates.specs.DatesExamples.{date, opened-dates}
 
@@ -50,10 +50,11 @@ rounded-once = (refl, refl)
 
 -- ---- the call
 
--- the first quarter of 2024; 30 February; and a row without counts, which 9 refuses first
+-- the first quarter of 2024; 30 February; and a row without counts, which 9 refuses first. K stands
+-- on line 2
 pub calls :
-    (cashAnswer 2 K 0 1 (date 2023 12 31) (date 2024 1 1) (date 2024 4 1) ≡ acceptedCash (pos 125))
-    × (cashAnswer 2 K 0 1 (date 2023 12 31) (date 2024 2 30) (date 2024 4 1) ≡ refusedCash 19)
+    (cashAnswer 2 (relined 2 K) 0 1 (date 2023 12 31) (date 2024 1 1) (date 2024 4 1) ≡ acceptedCash 2 (pos 125))
+    × (cashAnswer 2 (relined 2 K) 0 1 (date 2023 12 31) (date 2024 2 30) (date 2024 4 1) ≡ refusedCash 19)
     × (cashAnswer 2 (two 0 0 0 90 ++ two 1 600 400 660) 0 1 (date 2023 12 31) (date 2024 2 30) (date 2024 4 1) ≡ refusedCash 9)
 unfolding opened-cash
 calls = (refl, refl, refl)

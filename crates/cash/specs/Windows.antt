@@ -10,8 +10,10 @@ use lib.IntN.{ℤ, pos, _+ℤ_, _-ℤ_}
 use Rattle.integers.specs.Solver.{ring, form}
 use Rattle.integers.specs.Sums.{sum}
 use Rattle.model.specs.Lists.{at}
+use Rattle.model.specs.Records.{setOf}
 use Rattle.model.specs.Dates.{isDate, dayNumber, anniversary}
-use Rattle.model.specs.Calendar.{amount, line, lines, allLines, tallyText}
+use Rattle.model.specs.Calendar as Calendar
+use Rattle.model.specs.Calendar.{amount, lines, allLines, tallyText}
 use Rattle.model.specs.Cash.{fullYears, yearTotal, dueBefore, cashIn}
 use Rattle.model.specs.Questions.{isValuation}
 use Rattle.model.specs.Calls.{zeros, forecastRefusal, fileTally, fileText, cashRefusal, acceptedCash, cashAnswer}
@@ -66,7 +68,7 @@ pub record EndsWith (s end : List ℕ) : Type 0 where
 
 -- the text of a tally ends with the sum of its totals
 text-ends : (m : ℕ) (t : Tally) → EndsWith (tallyText m t) (amount (fullYears t (2 * m - 2)) ++ (10 ∷ []))
-unfolding tallyText allLines line fullYears
+unfolding tallyText allLines Calendar.line fullYears
 text-ends m t =
     record {
       front = years ++ totals;
@@ -74,7 +76,7 @@ text-ends m t =
     }
   where
     years : List ℕ
-    years = lines line t (2 * m - 2)
+    years = lines Calendar.line t (2 * m - 2)
 
     x : ℤ
     x = sum (2 * m - 2) (at (t .rbns))
@@ -89,6 +91,9 @@ module _ (m : ℕ) (f : List ℕ) (method basis : ℕ) (v : Date) where
   abbrev t : Tally
   t = fileTally m f method basis
 
+  abbrev line : ℕ
+  line = setOf m f .line
+
   abbrev answer : Date → Date → CashAnswer
   answer a b = cashAnswer m f method basis v a b
 
@@ -99,13 +104,13 @@ module _ (m : ℕ) (f : List ℕ) (method basis : ℕ) (v : Date) where
     refusal-is = sym (number-of (cashRefusal m f method basis v a b) _ _ (λ (x : CashAnswer). x .refusal) refl refl) ∙ z
 
     amount-is : answer a b .amount ≡ cashIn (2 * m - 2) t v a b
-    amount-is = ap (λ (x : CashAnswer). x .amount) (sym (accepted-is m f method basis v a b refusal-is refl))
+    amount-is = ap (λ (x : CashAnswer). x .amount) (sym (accepted-is m f method basis v a b refusal-is refl refl))
 
     is-window : Window m v a b
     is-window = window m v a b (cash-so m f method basis v a b refusal-is .2)
 
   -- windows that follow on are one window
-  pub windows-follow : (a b c : Date) → answer a b .refusal ≡ 0 → answer b c .refusal ≡ 0 → answer a c ≡ acceptedCash (answer a b .amount +ℤ answer b c .amount)
+  pub windows-follow : (a b c : Date) → answer a b .refusal ≡ 0 → answer b c .refusal ≡ 0 → answer a c ≡ acceptedCash line (answer a b .amount +ℤ answer b c .amount)
   windows-follow a b c y z =
       let p = is-window a b y in
       let q = is-window b c z in
@@ -120,7 +125,7 @@ module _ (m : ℕ) (f : List ℕ) (method basis : ℕ) (v : Date) where
         ends-within = q .ends-within;
       } in
       sym (
-      accepted-is m f method basis v a c (accepted m f method basis v a c (so .0) (so .1) (window-yes m v a c w))
+      accepted-is m f method basis v a c (accepted m f method basis v a c (so .0) (so .1) (window-yes m v a c w)) refl
       (ap₂ _+ℤ_ (amount-is a b y) (amount-is b c z) ∙ cash-follows (2 * m - 2) t v a b c)
       )
 
@@ -129,13 +134,13 @@ module _ (m : ℕ) (f : List ℕ) (method basis : ℕ) (v : Date) where
     abbrev d : isDate v ≡ true
     d = valued v e .date
 
-    accepted-window : (a b : Date) {z : ℤ} → Window m v a b → cashIn (2 * m - 2) t v a b ≡ z → answer a b ≡ acceptedCash z
+    accepted-window : (a b : Date) {z : ℤ} → Window m v a b → cashIn (2 * m - 2) t v a b ≡ z → answer a b ≡ acceptedCash line z
     accepted-window a b w q =
         let p = FileLaws.passed m f method basis (zeros 1560) forecast in
-        sym (accepted-is m f method basis v a b (accepted m f method basis v a b (p .0) (p .2) (window-yes m v a b w)) (sym q))
+        sym (accepted-is m f method basis v a b (accepted m f method basis v a b (p .0) (p .2) (window-yes m v a b w)) refl (sym q))
 
     -- a whole forecast year
-    pub whole-year : (k : ℕ) → k < 2 * m - 2 → answer (anniversary v k) (anniversary v (suc k)) ≡ acceptedCash (yearTotal t k)
+    pub whole-year : (k : ℕ) → k < 2 * m - 2 → answer (anniversary v k) (anniversary v (suc k)) ≡ acceptedCash line (yearTotal t k)
     whole-year k h =
         accepted-window (anniversary v k) (anniversary v (suc k))
         (record {
@@ -150,7 +155,7 @@ module _ (m : ℕ) (f : List ℕ) (method basis : ℕ) (v : Date) where
         (cash-year (2 * m - 2) t v d k h)
 
     -- all of them
-    pub whole-span : 2 ≤ m → answer v (anniversary v (2 * m - 2)) ≡ acceptedCash (fullYears t (2 * m - 2))
+    pub whole-span : 2 ≤ m → answer v (anniversary v (2 * m - 2)) ≡ acceptedCash line (fullYears t (2 * m - 2))
     whole-span h =
         accepted-window v (anniversary v (2 * m - 2))
         (record {

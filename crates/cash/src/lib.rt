@@ -15,7 +15,7 @@ ghost use Rattle.model.specs.Lists.{at};
 ghost use Rattle.model.specs.Dates.{isDate, dayNumber};
 ghost use Rattle.model.specs.Cash.{yearStart, fullYears, yearTotal, dueBefore};
 ghost use Rattle.model.specs.Questions.{isValuation};
-ghost use Rattle.model.specs.Calls.{cashAnswer};
+ghost use Rattle.model.specs.Calls.{refusedCash, cashAnswer};
 ghost use Rattle.tally.specs.YearSums.{tallyIn};
 ghost use Rattle.tally.specs.YearRows.{Modest};
 
@@ -62,9 +62,20 @@ fn due_before<'a>(rbns: &'a [i64; 38], ibnr: &'a [i64; 38], valuation: Date, dat
     round_share(full, total, passed as i64, days as i64)
 }
 
+// A refusal, with zeros beside it.
+fn refused(number: u64) -> CashAnswer
+    ensures { λ r. ⌜ r ≡ refusedCash number ⌝ }
+{
+    CashAnswer {
+        refusal: number,
+        line: 0,
+        amount: 0,
+    }
+}
+
 // The cash of a window, by method and basis: what falls due from its start on and before its end,
 // counted in forecast years from the valuation date. Questions 1 to 6, 9 to 14, and 19; the amount
-// is 0 beside a refusal.
+// and the line are 0 beside a refusal.
 pub fn cash_in_window(
     file: &[u8],
     m: usize,
@@ -79,25 +90,23 @@ pub fn cash_in_window(
     let mut set = [0i64; 1200];
     let refusal = forecast::read_to_forecast(file, m, method, basis, &mut set);
     if refusal != 0 {
-        return CashAnswer { refusal, amount: 0 };
+        return refused(refusal);
     }
     let mut leftovers = [0i64; 20];
     let mut entries = [0i64; 1560];
     let refusal = forecast::forecast_set(&set, m, method, basis, &mut leftovers, &mut entries);
     if refusal != 0 {
-        return CashAnswer { refusal, amount: 0 };
+        return refused(refusal);
     }
     if !q19(m, valuation, start, end) {
-        return CashAnswer {
-            refusal: 19,
-            amount: 0,
-        };
+        return refused(19);
     }
     let t = tally_of(&entries, m);
     let due = due_before(&t.rbns, &t.ibnr, valuation, end);
     let before = due_before(&t.rbns, &t.ibnr, valuation, start);
     CashAnswer {
         refusal: 0,
+        line: triangles::line(file),
         amount: due - before,
     }
 }

@@ -8,7 +8,7 @@ use lib.IntN.{ℤ, pos, _*ℤ_}
 use Rattle.model.specs.Lists.{at, tabulate}
 use Rattle.model.specs.Rounding.{S, r}
 use Rattle.model.specs.Cells.{pairs, rbnsFrom, yearOf, delayOf}
-use Rattle.cells.specs.declared.cell.Cell.{Cell}
+use Rattle.cells.specs.declared.Cell.{Cell}
 use Rattle.cells.specs.Weights.{Weights, Delays, Summed}
 
 -- the sums of b(k) × p(l) over the reporting delays k from c on, that with k + l = j at place j

@@ -2,7 +2,6 @@
 pub mod SharesLaws
 pub mod Sums
 pub mod SumsLaws
-pub mod Running
 pub mod Valid
 pub mod Developed
 pub mod Ladder

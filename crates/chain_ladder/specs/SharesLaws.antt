@@ -19,11 +19,7 @@ use Rattle.model.specs.Records.{cell}
 use Rattle.model.specs.Rounding.{S, r}
 use Rattle.model.specs.Shares as Shares
 use Rattle.model.specs.Shares.{C, latest, A, B, gDown, g, gList, bList, ultimate, ultimates}
-use Rattle.arithmetic.specs.RoundingLaws.{r-within}
-
-pub S-pos : pos 0 ⋖ S
-unfolding S
-S-pos = omega (arith, ints)
+use Rattle.arithmetic.specs.RoundingLaws.{S-pos, r-within}
 
 -- ---- as 01 gives them
 module _ (m : ℕ) (t : List ℤ) where

@@ -14,8 +14,8 @@ use Rattle.model.specs.Lists.{every}
 use Rattle.model.specs.ListsLaws.{every-at}
 use Rattle.model.specs.Rounding.{S, r}
 use Rattle.model.specs.Shares.{C, latest, B, g, ultimate}
-use Rattle.arithmetic.specs.RoundingLaws.{r-abs, r-least, r-nonneg, r-exact}
-use Rattle.chain_ladder.specs.SharesLaws.{S-pos, Sound, g-last, g-range, g-pos, latest-nonneg}
+use Rattle.arithmetic.specs.RoundingLaws.{S-pos, r-abs, r-least, r-nonneg, r-exact}
+use Rattle.chain_ladder.specs.SharesLaws.{Sound, g-last, g-range, g-pos, latest-nonneg}
 use Rattle.chain_ladder.specs.Sums.{Small}
 use Rattle.chain_ladder.specs.SumsLaws.{latest-small}
 use Rattle.chain_ladder.specs.Ladder.{bounded}

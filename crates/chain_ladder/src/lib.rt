@@ -146,8 +146,11 @@ pub fn shares(file: &[u8], m: usize) -> model::SharesAnswer
     let mut g = [0i64; 20];
     let mut u = [0i64; 20];
     let refusal = shares_into(file, m, &mut b, &mut n, &mut q, &mut g, &mut u);
+    let mut line = 0;
+    triangles::store_line(file, refusal, &mut line);
     model::SharesAnswer {
         refusal,
+        line,
         b,
         n,
         q,

@@ -43,4 +43,4 @@ inflationOf i u cost mu = cond (eqb i 1) BaseYear (cond (isZero u) NoPaymentsYet
 
 -- the claim costs, or the number of the first of questions 9 to 11 that gets a no
 unfoldable pub costsOfSet : ℕ → TriangleSet → ClaimCostsAnswer
-costsOfSet m s = let n = firstNo (ofShares m (s .counts) (s .paid)) in ifAccepted n (acceptedClaimCosts (claimCosts m s)) (refusedClaimCosts n)
+costsOfSet m s = let n = firstNo (ofShares m (s .counts) (s .paid)) in ifAccepted n (acceptedClaimCosts (s .line) (claimCosts m s)) (refusedClaimCosts n)

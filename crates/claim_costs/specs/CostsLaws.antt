@@ -96,11 +96,11 @@ module _ (m : ℕ) (s : TriangleSet) where
   set-no n e o = if-refused _ _ _ (λ z. o (sym e ∙ z)) ∙ ap refusedClaimCosts e
 
   -- the claim costs by their parts
-  pub set-yes : asked ≡ 0 → {mu : Float} {factors : List Float} {inflations : List YearInflation}
+  pub set-yes : asked ≡ 0 → {line : ℕ} → line ≡ s .line → {mu : Float} {factors : List Float} {inflations : List YearInflation}
       → mu ≡ claimCosts m s .mu → factors ≡ claimCosts m s .factors → inflations ≡ claimCosts m s .inflations
-      → acceptedClaimCosts (record { mu = mu; factors = factors; inflations = inflations }) ≡ costsOfSet m s
+      → acceptedClaimCosts line (record { mu = mu; factors = factors; inflations = inflations }) ≡ costsOfSet m s
   unfolding costsOfSet
-  set-yes e p q r = rw (p, q, r) (sym (if-accepted _ _ _ e))
+  set-yes e l p q r = rw (l, p, q, r) (sym (if-accepted _ _ _ e))
 
 module _ (m : ℕ) (f : List ℕ) where
   pub file-no : (n : ℕ) → readRefusal m f ≡ n → (n ≡ 0 → ⊥) → claimCostsAnswer m f ≡ refusedClaimCosts n

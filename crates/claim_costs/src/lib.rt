@@ -4,7 +4,6 @@ use chain_ladder::sums::sums;
 use model::Inflation;
 use model::YearInflation;
 ghost use mathlib.Core.Path.{_≡_};
-ghost use mathlib.Core.Bool.{Bool};
 ghost use Prim.Native.Nat.{suc, _^_, _≤_};
 ghost use lib.Dec.{T};
 ghost use lib.Ieee.Positive.{positive};
@@ -13,6 +12,7 @@ ghost use Rattle.model.specs.ClaimCosts.{quotient, noFloat, yearInflation};
 ghost use Rattle.model.specs.Calls.{refusedClaimCosts, claimCostsAnswer};
 ghost use Rattle.model.specs.declared.Inflation.the-variants.{NoPaymentsYet};
 ghost use Rattle.model.specs.Lent.{lentSet, triangleIn};
+ghost use Rattle.model.specs.declared.TriangleSet.{TriangleSet};
 ghost use Rattle.chain_ladder.specs.Valid.{Amounts};
 ghost use Rattle.claim_costs.specs.Costs.{Exact, AllExact, costAt, inflationOf, costsOfSet};
 
@@ -89,6 +89,7 @@ fn refused(number: u64) -> model::ClaimCostsAnswer
     };
     model::ClaimCostsAnswer {
         refusal: number,
+        line: 0,
         costs: model::ClaimCosts {
             mu: 0.0,
             factors: [0.0; 20],
@@ -97,10 +98,10 @@ fn refused(number: u64) -> model::ClaimCostsAnswer
     }
 }
 
-// Questions 9 to 11, and the claim costs of a set.
-fn claim_costs_of_set(set: &[i64; 1200], m: usize) -> model::ClaimCostsAnswer
+// Questions 9 to 11, and the claim costs of a set on a line.
+fn claim_costs_of_set(set: &[i64; 1200], line: u64, m: usize) -> model::ClaimCostsAnswer
     requires { ⌜ Amounts m (10 ^ 7) (triangleIn 0 (now set)) × Amounts m (10 ^ 10) (triangleIn 1 (now set)) ⌝ }
-    ensures { λ r. ⌜ ((has : Bool) → r ≡ costsOfSet m (lentSet has (now (set .entry)))) ⌝ }
+    ensures { λ r. ⌜ ((like : TriangleSet) → line ≡ like .line → r ≡ costsOfSet m (lentSet like (now (set .entry)))) ⌝ }
 {
     let mut count_latest = [0i64; 20];
     let mut count_g = [0i64; 20];
@@ -128,6 +129,7 @@ fn claim_costs_of_set(set: &[i64; 1200], m: usize) -> model::ClaimCostsAnswer
     let factors = quotients(&b, &a, m - 1);
     model::ClaimCostsAnswer {
         refusal: 0,
+        line,
         costs: model::ClaimCosts {
             mu,
             factors,
@@ -145,5 +147,5 @@ pub fn claim_costs(file: &[u8], m: usize) -> model::ClaimCostsAnswer
     if refusal != 0 {
         return refused(refusal);
     }
-    claim_costs_of_set(&set, m)
+    claim_costs_of_set(&set, triangles::line(file), m)
 }

@@ -1,6 +1,3 @@
--- Solved: the triangular system. Prepared: what the cells need under every method.
-pub mod DelaysLaws
-pub mod Solved
-pub mod SolvedLaws
+-- What the cells need under every method, and the calls.
 pub mod Prepared
 pub mod PreparedLaws

@@ -12,7 +12,7 @@ use Rattle.model.specs.Questions.{Question, firstNo, ofShares, ofDelays, ofGive
 use Rattle.model.specs.Calls.{ifAccepted, callRefusal}
 use Rattle.model.specs.Lent.{triangleIn}
 use Rattle.chain_ladder.specs.Developed.{Ladder}
-use Rattle.delays.specs.Solved.{placed}
+use Rattle.solver.specs.Solved.{placed}
 
 -- the delays of counts and paid
 abbrev pub pairDelays : ℕ → List ℤ → List ℤ → List ℤ

@@ -3,22 +3,41 @@
 use mathlib.Core.Path.{_≡_, refl, sym, _∙_}
 use mathlib.Core.Bool.{Bool, true, false, cond}
 use mathlib.Core.List.{List, [], _++_}
-use Prim.Native.Nat.{ℕ}
+use Prim.Native.Nat.{ℕ, _≤_}
+use native.Mathlib.Omega.{arith}
+use Rattle.integers.specs.Sums.{sum-cong}
+use borrow.Author.Tests.{eqb-true}
 use lib.Dec.{eqb}
 use lib.IntN.{ℤ}
-use Rattle.model.specs.Records.{setOf}
+use Rattle.model.specs.Records.{lineOf, setOf}
+use Rattle.model.specs.Shares as Shares
 use Rattle.model.specs.Shares.{bList}
 use Rattle.model.specs.Delays.{delaysOf}
 use Rattle.model.specs.Questions.{q12, q20, firstNo, ofShares, ofDelays, ofGivenDelays}
 use Rattle.model.specs.QuestionsLaws.{numbered, no-refusal, each-yes, stage-no, stage-yes, stages-so}
-use Rattle.model.specs.Calls.{ifAccepted, zeros, callRefusal, readRefusal, delaysRefusal, delaysAnswer, checkDelaysRefusal}
-use Rattle.model.specs.CallsLaws.{by-file, by-set, number-of, as-answered, if-refused}
+use Rattle.model.specs.Calls.{ifAccepted, zeros, callRefusal, readRefusal, delaysRefusal, acceptedDelays, refusedDelays, delaysAnswer, checkDelaysRefusal, checkDelaysAnswer}
+use Rattle.model.specs.CallsLaws.{by-file, by-set, number-of, beside, as-answered, if-refused}
 use Rattle.model.specs.Tests.{by-test}
 use Rattle.model.specs.declared.DelaysAnswer.{DelaysAnswer}
-use Rattle.chain_ladder.specs.DevelopedLaws.{shares-numbered}
-use Rattle.delays.specs.declared.Solved.{Solved}
-use Rattle.delays.specs.Solved.{solvedOf, checkedOf}
+use Rattle.chain_ladder.specs.SharesLaws.{at-bList, shares-sum, share-range}
+use Rattle.chain_ladder.specs.DevelopedLaws.{Shared, shares-numbered, counts-least, counts-sound, paid-sound}
+use Rattle.solver.specs.declared.Solved.{Solved}
+use Rattle.solver.specs.Solved.{Solvable, solvedOf, checkedOf}
 use Rattle.delays.specs.Prepared.{pairDelays, preparedRefusal, asksDelays, delaysFrom, refusalFrom, ReadDelays}
+
+-- the shares of counts and paid that pass questions 9 to 11
+pub solvable : {m : ℕ} {c d b q : List ℤ} → Shared m c d → b ≡ bList m c → q ≡ bList m d → Solvable m b q
+unfolding Shares.b
+solvable {m} {c} {d} h e f =
+    let few = h .counts .small .few in
+    let some : 1 ≤ m = (let l = h .counts .least in omega arith) in
+    rw (e, f) (record {
+      few = few;
+      first = rw (at-bList m c few 0 some) (counts-least h);
+      shares = λ k l. rw (at-bList m c few k l) (share-range m c (counts-sound h) k l .0);
+      whole = sum-cong m (at-bList m c few) ∙ shares-sum m c some;
+      targets = λ l k. rw (at-bList m d few l k) (share-range m d (paid-sound h) l k);
+    })
 
 module _ (m : ℕ) (c d : List ℤ) where
   -- what either side hands back
@@ -94,24 +113,30 @@ module _ (m : ℕ) (f : List ℕ) where
   unfolding delaysAnswer
   delays-refusal = number-of _ _ _ (λ (x : DelaysAnswer). x .refusal) refl refl
 
-  -- what is written over a list is the answer's, beside a refusal what stood there
-  delays-beside : (n : ℕ) (before : List ℤ) → n ≡ delaysRefusal m f → ifAccepted n (delaysOf m (setOf m f)) before ≡ ifAccepted n (delaysAnswer m f .p) before
+  -- what is written over a list, or over a line, is the answer's, beside a refusal what stood there
+  delays-beside : {n : ℕ} (before : List ℤ) → n ≡ delaysRefusal m f → ifAccepted n (delaysOf m (setOf m f)) before ≡ ifAccepted n (delaysAnswer m f .p) before
   unfolding delaysAnswer
-  delays-beside n before e = rw e (by-test (eqb (delaysRefusal m f) 0) (λ t. rw t) (λ t. rw t))
+  delays-beside before e = rw e (beside (delaysRefusal m f) (acceptedDelays (setOf m f .line) (delaysOf m (setOf m f))) _ (λ (a : DelaysAnswer). a .p) before)
+
+  pub delays-line : {n : ℕ} → n ≡ delaysAnswer m f .refusal → (x : ℕ) → ifAccepted n (lineOf f) x ≡ ifAccepted n (delaysAnswer m f .line) x
+  unfolding delaysAnswer setOf
+  delays-line e x = rw (e ∙ delays-refusal) (beside (delaysRefusal m f) (acceptedDelays (setOf m f .line) (delaysOf m (setOf m f))) _ (λ (a : DelaysAnswer). a .line) x)
 
   pub as-solved : {n : ℕ} {lent before p : List ℤ} → ReadDelays m f false lent n before p → (n ≡ delaysAnswer m f .refusal) × (p ≡ ifAccepted n (delaysAnswer m f .p) before)
   unfolding delaysRefusal delaysOf asksDelays delaysFrom
-  as-solved {n} {before = before} made =
-      (made .refusal ∙ sym delays-refusal, made .delays-are ∙ delays-beside n before (made .refusal))
+  as-solved {before = before} made =
+      (made .refusal ∙ sym delays-refusal, made .delays-are ∙ delays-beside before (made .refusal))
 
-  pub as-checked : {n : ℕ} {lent before p : List ℤ} → ReadDelays m f true lent n before p → n ≡ checkDelaysRefusal m f lent
-  unfolding checkDelaysRefusal asksDelays
-  as-checked made = made .refusal
+  pub as-checked : {n line : ℕ} {lent before p : List ℤ} → ReadDelays m f true lent n before p → line ≡ ifAccepted n (lineOf f) 0 → record { refusal = n; line = line } ≡ checkDelaysAnswer m f lent
+  unfolding checkDelaysAnswer checkDelaysRefusal asksDelays setOf
+  as-checked {n} {lent = lent} made l = rw (l, made .refusal) (by-test (eqb (checkDelaysRefusal m f lent) 0) (λ t. rw (t, eqb-true (checkDelaysRefusal m f lent) 0 t)) (λ t. rw t))
 
-  -- into zeros, it is the answer
-  as-made : {n : ℕ} → n ≡ delaysRefusal m f → ifAccepted n (delaysAnswer m f .p) (zeros 20) ≡ delaysAnswer m f .p
+  -- over zeros, it is the answer
+  as-made : {A : Type 0} {n : ℕ} → n ≡ delaysAnswer m f .refusal → (part : DelaysAnswer → A) {x : A} → part (refusedDelays (delaysRefusal m f)) ≡ x
+      → ifAccepted n (part (delaysAnswer m f)) x ≡ part (delaysAnswer m f)
   unfolding delaysAnswer
-  as-made e = rw e (as-answered (delaysRefusal m f) _ _ (λ (x : DelaysAnswer). x .p) (zeros 20) refl)
+  as-made e part {x} z = rw (e ∙ delays-refusal) (as-answered (delaysRefusal m f) _ _ part x z)
 
-  pub delays-whole : {n : ℕ} {p : List ℤ} → n ≡ delaysAnswer m f .refusal → p ≡ ifAccepted n (delaysAnswer m f .p) (zeros 20) → record { refusal = n; p = p } ≡ delaysAnswer m f
-  delays-whole e q = rw (q ∙ as-made (e ∙ delays-refusal), e)
+  pub delays-whole : {n line : ℕ} {p : List ℤ} → n ≡ delaysAnswer m f .refusal → line ≡ ifAccepted n (lineOf f) 0 → p ≡ ifAccepted n (delaysAnswer m f .p) (zeros 20)
+      → record { refusal = n; line = line; p = p } ≡ delaysAnswer m f
+  delays-whole e l q = rw (l ∙ delays-line e 0 ∙ as-made e (λ x. x .line) refl, q ∙ as-made e (λ x. x .p) refl, e)

@@ -18,7 +18,7 @@ year-sums = (refl, refl)
 
 -- the claim costs of K: mu is 10, f(1) the number nearest 1000/600, and year 2's inflation
 -- (1100/112)/10, each division rounded; N(2) is 112 since halves go to even (02, Job 4)
-pub claim-costs : claimCostsAnswer 2 K ≡ acceptedClaimCosts (record {
+pub claim-costs : claimCostsAnswer 2 K ≡ acceptedClaimCosts 0 (record {
   mu = fin false 5 (pos 1);
   factors = fin false 7505999378950827 (negsuc 51) ∷ replicate 19 (fin false 0 (pos 0));
   inflations = yearInflation BaseYear ∷ yearInflation (Ratio (fin false 8846356410906331 (negsuc 52))) ∷ replicate 18 (yearInflation NoPaymentsYet);

@@ -10,12 +10,12 @@ use Rattle.integers.specs.Absolute.{∣_∣}
 use Rattle.model.specs.Lists.{every}
 use Rattle.model.specs.Delays.{solvesAt}
 use Rattle.model.specs.Questions.{q20, ofGivenDelays, ofForecastWith}
-use Rattle.model.specs.Calls.{checkDelaysRefusal, forecastOutput, forecastWithRefusal, forecastWithOutput}
+use Rattle.model.specs.Calls.{checkDelaysRefusal, checkDelaysAnswer, forecastOutput, forecastWithRefusal, forecastWithAnswer, forecastWithOutput}
 use Rattle.model.specs.Examples.{two}
 use Rattle.model.specs.Further.{K, less, opened-further}
 
 unfoldable pub opened-given : ℕ
-unfolding opened-further ∣_∣ solvesAt q20 ofGivenDelays ofForecastWith checkDelaysRefusal forecastWithRefusal forecastWithOutput
+unfolding opened-further ∣_∣ solvesAt q20 ofGivenDelays ofForecastWith checkDelaysRefusal checkDelaysAnswer forecastWithRefusal forecastWithAnswer forecastWithOutput
 opened-given = 0
 
 abbrev pub pair : ℕ → ℕ → List ℤ

@@ -8,3 +8,4 @@ pub mod Pages
 pub mod Tallies
 pub mod Journals
 pub mod GivenDelays
+pub mod Lines

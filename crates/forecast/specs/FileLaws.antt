@@ -1,25 +1,24 @@
 -- Laws of the forecast of a file: its refusal question by question, and its whole contract from the
 -- forecast of the set. Assumes nothing.
 use mathlib.Core.Path.{_≡_, refl, sym, _∙_}
-use mathlib.Core.Bool.{Bool}
+use mathlib.Core.Bool.{Bool, true, false}
 use mathlib.Core.List.{List, [], _∷_}
 use Prim.Native.Nat.{ℕ, _≤_, _<_}
 use borrow.Author.Tests.{le-leb, lt-leb, leb-true}
-use lib.Dec.{eqb}
 use lib.IntN.{ℤ}
 use lib.ListN.{length}
-use Rattle.model.specs.Records.{setOf, hasIncurred}
+use Rattle.model.specs.Records.{lineOf, setOf, hasIncurred}
 use Rattle.model.specs.Delays.{delaysOf}
 use Rattle.model.specs.Cells.{size, outputFrom}
 use Rattle.model.specs.RowBases.{leftovers}
 use Rattle.model.specs.PaidReserve.{NearReserves}
-use Rattle.model.specs.Questions.{Question, q6, q7, firstNo, ofForecast}
-use Rattle.model.specs.Calls.{ifAccepted, zeros, callRefusal, acceptedForecast, refusedForecast, forecastRefusal}
+use Rattle.model.specs.Questions.{Question, q6, q7, firstNo, ofForecast, ofForecastWith}
+use Rattle.model.specs.Calls.{ifAccepted, zeros, callRefusal, acceptedForecast, refusedForecast, forecastRefusal, forecastAnswer, forecastWithRefusal, forecastWithAnswer}
 use Rattle.model.specs.CallsLaws as CallsLaws
-use Rattle.model.specs.CallsLaws.{settingsRefusal, if-refused, number-of, as-answered}
-use Rattle.model.specs.Tests.{by-test}
+use Rattle.model.specs.CallsLaws.{settingsRefusal, if-refused, number-of, beside, as-answered}
 use Rattle.model.specs.declared.TriangleSet.{TriangleSet}
 use Rattle.model.specs.declared.ForecastAnswer.{ForecastAnswer}
+use Rattle.delays.specs.Prepared.{asksDelays}
 use Rattle.forecast.specs.SetForecast.{Answered, setRefusal, ofEither, eitherDelays}
 
 -- with the delays from either side
@@ -49,8 +48,11 @@ module _ (m : ℕ) (f : List ℕ) (method basis : ℕ) (given : Bool) (lent befo
   by-set z h = CallsLaws.to-set m f method basis 6 (q7 m (length before)) own z (le-leb (size m) (length before) h)
 
   -- ---- the contract, over the refusal number n, the leftovers before and after, and the output
+  abbrev yes : ForecastAnswer
+  yes = acceptedForecast (s .line) (leftovers m s method)
+
   abbrev answer : ForecastAnswer
-  answer = ifAccepted refusal (acceptedForecast (leftovers m s method)) (refusedForecast refusal)
+  answer = ifAccepted refusal yes (refusedForecast refusal)
 
   abbrev pub Into : ℕ → List ℤ → List ℤ → List ℤ → Type 0
   Into n left lefts after =
@@ -67,7 +69,12 @@ module _ (m : ℕ) (f : List ℕ) (method basis : ℕ) (given : Bool) (lent befo
   refused o e = (sym (number-is ∙ e), (sym (if-refused _ _ _ o), (sym (if-refused _ _ _ (λ z. o (sym e ∙ z))), λ z. absurd (o z))))
 
   lefts-beside : {n : ℕ} (left : List ℤ) → n ≡ refusal → ifAccepted n (leftovers m s method) left ≡ ifAccepted n (answer .leftovers) left
-  lefts-beside left e = rw e (by-test (eqb refusal 0) (λ t. rw t) (λ t. rw t))
+  lefts-beside left e = rw e (beside refusal yes _ (λ (a : ForecastAnswer). a .leftovers) left)
+
+  -- the line that stands there is the answer's
+  pub line-beside : {n : ℕ} → n ≡ answer .refusal → (x : ℕ) → ifAccepted n (lineOf f) x ≡ ifAccepted n (answer .line) x
+  unfolding setOf
+  line-beside e x = rw (e ∙ number-is) (beside refusal yes _ (λ (a : ForecastAnswer). a .line) x)
 
   -- what the forecast of the file's set t answers and writes is the file's
   pub forecasted : settings ≡ 0 → size m ≤ length before → {t : TriangleSet} → t ≡ s → {n : ℕ} {left lefts after : List ℤ}
@@ -78,12 +85,22 @@ module _ (m : ℕ) (f : List ℕ) (method basis : ℕ) (given : Bool) (lent befo
       let e : n ≡ refusal = a .refusal ∙ sym (by-set passed room) in
       (e ∙ sym number-is, (a .leftovers-are ∙ lefts-beside left e, (a .output ∙ rw e, rw is at near)))
 
-  -- with zeros for leftovers it is the answer by value
-  pub by-value : {n : ℕ} {lefts after : List ℤ} → Into n (zeros 20) lefts after → record { refusal = n; leftovers = lefts } ≡ answer
-  by-value {n} e = rw (e .1 .0 ∙ whole (e .0), e .0)
+  -- with zeros for leftovers and for the line it is the answer by value
+  pub by-value : {n line : ℕ} {lefts after : List ℤ} → Into n (zeros 20) lefts after → line ≡ ifAccepted n (lineOf f) 0 → record { refusal = n; line = line; leftovers = lefts } ≡ answer
+  by-value {n} e l = rw (l ∙ line-beside (e .0) 0 ∙ whole (λ a. a .line) refl, e .1 .0 ∙ whole (λ a. a .leftovers) refl, e .0)
     where
-      whole : n ≡ answer .refusal → ifAccepted n (answer .leftovers) (zeros 20) ≡ answer .leftovers
-      whole e = rw (e ∙ number-is) (as-answered refusal _ _ (λ (x : ForecastAnswer). x .leftovers) (zeros 20) refl)
+      whole : {A : Type 0} (part : ForecastAnswer → A) {x : A} → part (refusedForecast refusal) ≡ x → ifAccepted n (part answer) x ≡ part answer
+      whole part {x} z = rw (e .0 ∙ number-is) (as-answered refusal _ _ part x z)
+
+-- the line that stands beside the answer of either call
+module _ (m : ℕ) (f : List ℕ) (method basis : ℕ) (before : List ℤ) {n : ℕ} where
+  pub forecast-line : n ≡ forecastAnswer m f method basis (length before) .refusal → (x : ℕ) → ifAccepted n (lineOf f) x ≡ ifAccepted n (forecastAnswer m f method basis (length before) .line) x
+  unfolding forecastRefusal forecastAnswer ofForecast ofEither asksDelays delaysOf
+  forecast-line = line-beside m f method basis false [] before
+
+  pub forecast-with-line : (p : List ℤ) → n ≡ forecastWithAnswer m f method basis p (length before) .refusal → (x : ℕ) → ifAccepted n (lineOf f) x ≡ ifAccepted n (forecastWithAnswer m f method basis p (length before) .line) x
+  unfolding forecastWithRefusal forecastWithAnswer ofForecastWith ofEither asksDelays
+  forecast-with-line p = line-beside m f method basis true p before
 
 -- with those solved here
 module _ (m : ℕ) (f : List ℕ) (method basis : ℕ) (before : List ℤ) where

@@ -19,7 +19,7 @@ use Rattle.model.specs.CallsLaws.{all-passed}
 use Rattle.model.specs.declared.TriangleSet.{TriangleSet}
 use Rattle.chain_ladder.specs.Accepted.{valid-set}
 use Rattle.chain_ladder.specs.DevelopedLaws.{Shared, shared-set}
-use Rattle.delays.specs.DelaysLaws.{length-delays, own-accepted}
+use Rattle.solver.specs.DelaysLaws.{length-delays, own-accepted}
 use Rattle.delays.specs.Prepared.{preparedRefusal}
 use Rattle.delays.specs.PreparedLaws.{prepared-so}
 use Rattle.paid_reserve.specs.Demand3.{own-solve}

@@ -31,20 +31,20 @@ use Rattle.chain_ladder.specs.LadderLaws.{ladder-shares}
 use Rattle.model.specs.Lent.{lentSet, triangleIn}
 use Rattle.model.specs.CallsLaws.{if-accepted}
 use Rattle.chain_ladder.specs.Valid.{Valid, counts-of, paid-of, incurred-small}
-use Rattle.delays.specs.DelaysLaws.{Solves, delay-past, solves-so}
-use Rattle.delays.specs.Solved.{held, placed}
-use Rattle.delays.specs.SolvedLaws.{held-small}
+use Rattle.solver.specs.DelaysLaws.{Solves, delay-past, solves-so}
+use Rattle.solver.specs.Solved.{held, placed}
+use Rattle.solver.specs.SolvedLaws.{held-small}
 use Rattle.delays.specs.Prepared.{pairDelays, asksDelays, delaysFrom, refusalFrom, preparedRefusal, PreparedBy}
 use Rattle.delays.specs.PreparedLaws.{prepared-so, given-so}
 use Rattle.row_bases.specs.Method.{Asked, Based, rowBases}
 use Rattle.row_bases.specs.MethodLaws.{method-asked, six-known, six-incurred, bases-small}
 use Rattle.cells.specs.CellOf.{sumsFrom, cellOf, yearsEntries}
 use Rattle.cells.specs.Weights.{Weights, Delays}
-use Rattle.cells.specs.WeightsLaws.{weights-are}
-use Rattle.cells.specs.Ready.{Ready, yearWeights}
-use Rattle.cells.specs.ReadyLaws as ReadyLaws
-use Rattle.cells.specs.ReadyLaws.{g-at, latest-at, shares-fit}
-use Rattle.cells.specs.YearsLaws.{cell-is, output-is}
+use Rattle.years.specs.WeightsLaws.{weights-are}
+use Rattle.years.specs.Ready.{Ready, yearWeights}
+use Rattle.years.specs.ReadyLaws as ReadyLaws
+use Rattle.years.specs.ReadyLaws.{g-at, latest-at, shares-fit}
+use Rattle.years.specs.YearsLaws.{cell-is, output-is}
 use Rattle.forecast.specs.SetForecast.{Answered, methodRefusal, setRefusal, ofEither, eitherDelays, InRange, Given}
 
 -- ---- a set that passed questions 1, 5, 6 and 9 to 14, with delays p in range
@@ -104,11 +104,11 @@ module _ (m : ℕ) (s : TriangleSet) (method : ℕ) (asked : Asked m (s .counts)
   set-bases i h l = let e : suc (i - 1) ≡ i = omega arith in rw e at (bases-small m s method asked passed (i - 1) (omega arith))
 
 -- ---- from what is prepared, as the code takes it: v is what the row bases made, b the shares
-module _ {m : ℕ} {set : List ℤ} {method : ℕ} {cl cg dl dg p : List ℤ} (given : Given m set method cl cg dl dg p) (has : Bool)
-    {n : ℕ} {v left lefts : List ℤ} (based : Based m (lentSet has set) method n v left lefts) (z : n ≡ 0)
+module _ {m : ℕ} {set : List ℤ} {method : ℕ} {cl cg dl dg p : List ℤ} (given : Given m set method cl cg dl dg p) (like : TriangleSet)
+    {n : ℕ} {v left lefts : List ℤ} (based : Based m (lentSet like set) method n v left lefts) (z : n ≡ 0)
     {b : List ℤ} (b-is : b ≡ listed 20 m (difference cg) (pos 0)) where
   abbrev given-set : TriangleSet
-  given-set = lentSet has set
+  given-set = lentSet like set
 
   passes : methodRefusal m given-set method ≡ 0
   unfolding methodRefusal
@@ -250,10 +250,10 @@ near {m = m} {s = s} {p = p} {before = before} {after = after} h a solves z dcl 
     rw plain (demand-3 m s h p before (solves z))
 
 -- a valid set and a method that question 6 knows
-pub in-range : (m : ℕ) (has : Bool) (set : List ℤ) (method basis : ℕ) → Valid m (lentSet has set) → q6 has method basis ≡ true → InRange m set method
-in-range m has set method basis valid six = record {
-  counts = counts-of m (lentSet has set) valid;
-  paid = paid-of m (lentSet has set) valid;
-  known = six-known has method basis six;
-  incurred = λ n. incurred-small m (lentSet has set) valid (six-incurred has method basis six n);
+pub in-range : (m : ℕ) (like : TriangleSet) (set : List ℤ) (method basis : ℕ) → Valid m (lentSet like set) → q6 (like .«has_incurred») method basis ≡ true → InRange m set method
+in-range m like set method basis valid six = record {
+  counts = counts-of m (lentSet like set) valid;
+  paid = paid-of m (lentSet like set) valid;
+  known = six-known (like .«has_incurred») method basis six;
+  incurred = λ n. incurred-small m (lentSet like set) valid (six-incurred (like .«has_incurred») method basis six n);
 }

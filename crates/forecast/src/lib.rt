@@ -101,13 +101,19 @@ pub fn forecast_into(
     forecast_file(file, m, method, basis, false, &none, leftovers, out)
 }
 
-// The same forecast, the refusal and the leftovers handed back.
+// The same forecast, with the refusal, the line and the leftovers handed back.
 pub fn forecast(file: &[u8], m: usize, method: u64, basis: u64, out: &mut [i64]) -> ForecastAnswer
     ensures { λ r. ⌜ Forecasted m (now (file .entry)) method basis (now (out .entry)) (now (out .exit)) r ⌝ }
 {
     let mut leftovers = [0i64; 20];
     let refusal = forecast_into(file, m, method, basis, &mut leftovers, out);
-    ForecastAnswer { refusal, leftovers }
+    let mut line = 0;
+    triangles::store_line(file, refusal, &mut line);
+    ForecastAnswer {
+        refusal,
+        line,
+        leftovers,
+    }
 }
 
 // The forecast of a file by delays that are given, in billionths, written into lent memory as by
@@ -129,7 +135,7 @@ pub fn forecast_with_delays_into(
     forecast_file(file, m, method, basis, true, delays, leftovers, out)
 }
 
-// The same forecast, the refusal and the leftovers handed back.
+// The same forecast, with the refusal, the line and the leftovers handed back.
 pub fn forecast_with_delays(
     file: &[u8],
     m: usize,
@@ -142,5 +148,11 @@ pub fn forecast_with_delays(
 {
     let mut leftovers = [0i64; 20];
     let refusal = forecast_with_delays_into(file, m, method, basis, delays, &mut leftovers, out);
-    ForecastAnswer { refusal, leftovers }
+    let mut line = 0;
+    triangles::store_line(file, refusal, &mut line);
+    ForecastAnswer {
+        refusal,
+        line,
+        leftovers,
+    }
 }

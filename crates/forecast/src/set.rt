@@ -1,8 +1,7 @@
 // The forecast of a set: questions 9 to 14, or 20 in place of 12.
-use cells::years::cell_forecast;
 use chain_ladder::ladder::shares_of;
+use years::cell_forecast;
 ghost use mathlib.Core.Path.{_≡_};
-ghost use mathlib.Core.Bool.{Bool};
 ghost use Prim.Native.Nat.{_≤_};
 ghost use lib.ListN.{length};
 ghost use Rattle.model.specs.Delays.{delaysOf};
@@ -10,6 +9,7 @@ ghost use Rattle.model.specs.Cells.{size};
 ghost use Rattle.model.specs.Questions.{firstNo};
 ghost use Rattle.model.specs.PaidReserve.{NearReserves};
 ghost use Rattle.model.specs.Lent.{lentSet, triangleIn};
+ghost use Rattle.model.specs.declared.TriangleSet.{TriangleSet};
 ghost use Rattle.forecast.specs.SetForecast.{InRange, Given, Answered, methodRefusal, setRefusal, ofEither, eitherDelays};
 
 // The forecast of a set from what is prepared of it: questions 13 and 14, the leftovers, and the
@@ -29,7 +29,7 @@ pub fn forecast_prepared<'a>(
     out: &mut [i64],
 ) -> u64
     requires { ⌜ Given m (now set) method (now «count_latest») (now «count_g») (now «paid_latest») (now «paid_g») p × (size m ≤ length (now out)) ⌝ }
-    ensures { λ r. ⌜ ((has : Bool) → let s = lentSet has (now (set .entry)) in Answered (methodRefusal m s method) m s p method basis r (now (leftovers .entry)) (now (leftovers .exit)) (now (out .entry)) (now (out .exit))) ⌝ }
+    ensures { λ r. ⌜ ((like : TriangleSet) → let s = lentSet like (now (set .entry)) in Answered (methodRefusal m s method) m s p method basis r (now (leftovers .entry)) (now (leftovers .exit)) (now (out .entry)) (now (out .exit))) ⌝ }
 {
     let mut v = [0i64; 20];
     let refusal = row_bases::method_bases(set, m, method, paid_latest, paid_g, &mut v, leftovers);
@@ -55,7 +55,7 @@ pub fn forecast_either(
     out: &mut [i64],
 ) -> u64
     requires { ⌜ InRange m (now set) method × (size m ≤ length (now out)) ⌝ }
-    ensures { λ r. ⌜ ((has : Bool) → let s = lentSet has (now (set .entry)) in Answered (firstNo (ofEither m s given (now (lent .entry)) method)) m s (eitherDelays m s given (now (lent .entry))) method basis r (now (leftovers .entry)) (now (leftovers .exit)) (now (out .entry)) (now (out .exit))) ⌝ }
+    ensures { λ r. ⌜ ((like : TriangleSet) → let s = lentSet like (now (set .entry)) in Answered (firstNo (ofEither m s given (now (lent .entry)) method)) m s (eitherDelays m s given (now (lent .entry))) method basis r (now (leftovers .entry)) (now (leftovers .exit)) (now (out .entry)) (now (out .exit))) ⌝ }
     ensures { λ r. ⌜ (r ≡ 0 → method ≡ 0 → basis ≡ 1 → NearReserves m (triangleIn 1 (now (set .entry))) (now (out .exit))) ⌝ }
 {
     let mut count_latest = [0i64; 20];
@@ -102,7 +102,7 @@ pub fn forecast_set(
     out: &mut [i64],
 ) -> u64
     requires { ⌜ InRange m (now set) method × (size m ≤ length (now out)) ⌝ }
-    ensures { λ r. ⌜ ((has : Bool) → let s = lentSet has (now (set .entry)) in Answered (setRefusal m s method) m s (delaysOf m s) method basis r (now (leftovers .entry)) (now (leftovers .exit)) (now (out .entry)) (now (out .exit))) ⌝ }
+    ensures { λ r. ⌜ ((like : TriangleSet) → let s = lentSet like (now (set .entry)) in Answered (setRefusal m s method) m s (delaysOf m s) method basis r (now (leftovers .entry)) (now (leftovers .exit)) (now (out .entry)) (now (out .exit))) ⌝ }
     ensures { λ r. ⌜ (r ≡ 0 → method ≡ 0 → basis ≡ 1 → NearReserves m (triangleIn 1 (now (set .entry))) (now (out .exit))) ⌝ }
 {
     let none = [0i64; 1];

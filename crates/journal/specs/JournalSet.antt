@@ -1,5 +1,5 @@
--- The triangles of an accepted journal are a set: the writer refuses it for nothing but want of
--- room, and it reads back the same. Assumes nothing.
+-- The triangles of an accepted journal are a set on whatever line: the writer refuses it for nothing
+-- but want of room, and it reads back the same. Assumes nothing.
 use Prim.Native.Nat.{ℕ, _+_, _-_, _*_, _≤_}
 use native.Mathlib.Omega.{arith}
 use mathlib.Core.Path.{_≡_, subst}
@@ -7,7 +7,7 @@ use mathlib.Core.Bool.{true, false, cond}
 use mathlib.Core.List.{List}
 use lib.IntN.{ℤ, pos}
 use lib.ListN.{replicate}
-use Rattle.model.specs.Records.{cell, triangle, givenSet, inRange, records}
+use Rattle.model.specs.Records.{cell, triangle, givenSet, isLine, inRange, records}
 use Rattle.model.specs.RecordsLaws.{triangle-again}
 use Rattle.model.specs.Questions.{firstNo, q1, eachCell, q5Writer, q7Writer}
 use Rattle.model.specs.QuestionsLaws.{eachCell-all}
@@ -21,10 +21,11 @@ use Rattle.set_file.specs.RoundTrip.{read-back}
 use Rattle.journal.specs.ByCell.{counts-ranged, paid-ranged}
 use Rattle.journal.specs.Replays.{all-accepted, counts-after, paid-after}
 
--- the set of a journal, without incurred
-unfoldable pub journalSet : ℕ → List ℕ → TriangleSet
-journalSet m f =
+-- the set of a journal on a line, without incurred
+unfoldable pub journalSet : ℕ → ℕ → List ℕ → TriangleSet
+journalSet m v f =
     record {
+      line = v;
       «has_incurred» = false;
       counts = triangle m (reports f);
       paid = triangle m (payments f);
@@ -54,18 +55,18 @@ module _ (m : ℕ) (f : List ℕ) (accepted : replayRefusal m f ≡ 0) where
   journal-in-range e = rw (counts-ok, paid-ok)
 
   -- the writer's refusal: 7 for want of room, and nothing else
-  pub room-only : (e : List ℤ) (room : ℕ) → writeRefusal m false (triangle m (reports f)) (triangle m (payments f)) e room ≡ cond (q7Writer m false room) 0 7
+  pub room-only : (v : ℕ) → isLine v ≡ true → (e : List ℤ) (room : ℕ) → writeRefusal m v false (triangle m (reports f)) (triangle m (payments f)) e room ≡ cond (q7Writer m false room) 0 7
   unfolding writeRefusal firstNo
-  room-only e room = rw (size, journal-in-range e) (by-test (q7Writer m false room) (λ y. rw y) (λ y. rw y))
+  room-only v line e room = rw (size, line, journal-in-range e) (by-test (q7Writer m false room) (λ y. rw y) (λ y. rw y))
 
   -- what the writer is given is the journal's set
-  pub journal-given : (e : List ℤ) → givenSet m false (triangle m (reports f)) (triangle m (payments f)) e ≡ journalSet m f
+  pub journal-given : (v : ℕ) (e : List ℤ) → givenSet m v false (triangle m (reports f)) (triangle m (payments f)) e ≡ journalSet m v f
   unfolding givenSet journalSet
-  journal-given e = rw (triangle-again m (reports f) few, triangle-again m (payments f) few)
+  journal-given v e = rw (triangle-again m (reports f) few, triangle-again m (payments f) few)
 
   -- and the reader hands back the same of its file
-  pub journal-back : readAnswer m (fileOf m (journalSet m f)) ≡ acceptedRead (journalSet m f)
-  journal-back =
+  pub journal-back : (v : ℕ) → isLine v ≡ true → readAnswer m (fileOf m (journalSet m v f)) ≡ acceptedRead (journalSet m v f)
+  journal-back v line =
       let none = replicate 400 (pos 0) in
-      subst (λ (s : TriangleSet). readAnswer m (fileOf m s) ≡ acceptedRead s) (journal-given none)
-      (read-back m (triangle m (reports f)) (triangle m (payments f)) none size false (journal-in-range none))
+      subst (λ (s : TriangleSet). readAnswer m (fileOf m s) ≡ acceptedRead s) (journal-given v none)
+      (read-back m v (triangle m (reports f)) (triangle m (payments f)) none size false line (journal-in-range none))

@@ -14,6 +14,7 @@ use Rattle.model.specs.declared.TriangleSet.{TriangleSet}
 unfoldable pub cutTo : ℕ → TriangleSet → TriangleSet
 cutTo n s =
     record {
+      line = s .line;
       «has_incurred» = s .«has_incurred»;
       counts = triangle n (cell (s .counts));
       paid = triangle n (cell (s .paid));

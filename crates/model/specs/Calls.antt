@@ -1,5 +1,6 @@
 -- The whole answer of each public call, refusals included: what it hands back, and what the lent
--- memory holds afterwards.
+-- memory holds afterwards. A call that takes one set's file, but for the closing page and `closing`,
+-- hands back the set's line of cover too (02, Job 7).
 use Prim.Native.Nat.{ℕ, _-_, _*_, _≤_}
 use mathlib.Core.Path.{_≡_}
 use mathlib.Core.Bool.{Bool, false, cond}
@@ -7,7 +8,7 @@ use mathlib.Core.List.{List, [], _∷_, _++_}
 use lib.Dec.{eqb, leb}
 use lib.IntN.{ℤ, pos}
 use lib.ListN.{length, take, drop, replicate}
-use Rattle.model.specs.Records.{triangle, records, setOf, givenSet, setLength, hasIncurred}
+use Rattle.model.specs.Records.{triangle, records, setOf, givenSet, setLength, hasIncurred, isLine}
 use Rattle.model.specs.SetFile.{fileOf}
 use Rattle.model.specs.Journal.{ofTransaction, booked, tallyAfter, q16Length, ofTransactions, reports, payments}
 use Rattle.model.specs.Shares.{gList, bList, ultimates}
@@ -25,6 +26,7 @@ use Rattle.model.specs.declared.TriangleSet.{TriangleSet}
 use Rattle.model.specs.declared.ReadAnswer.{ReadAnswer}
 use Rattle.model.specs.declared.SharesAnswer.{SharesAnswer}
 use Rattle.model.specs.declared.DelaysAnswer.{DelaysAnswer}
+use Rattle.model.specs.declared.CheckDelaysAnswer.{CheckDelaysAnswer}
 use Rattle.model.specs.declared.ForecastAnswer.{ForecastAnswer}
 use Rattle.model.specs.declared.ClaimCosts.{ClaimCosts}
 use Rattle.model.specs.declared.ClaimCostsAnswer.{ClaimCostsAnswer}
@@ -56,7 +58,7 @@ unfoldable pub readRefusal : ℕ → List ℕ → ℕ
 readRefusal m f = firstNo (ofFile m f)
 
 abbrev pub noSet : TriangleSet
-noSet = record { «has_incurred» = false; counts = zeros 400; paid = zeros 400; incurred = zeros 400 }
+noSet = record { line = 0; «has_incurred» = false; counts = zeros 400; paid = zeros 400; incurred = zeros 400 }
 
 abbrev pub acceptedRead : TriangleSet → ReadAnswer
 acceptedRead s = record { refusal = 0; set = s }
@@ -67,30 +69,31 @@ refusedRead n = record { refusal = n; set = noSet }
 unfoldable pub readAnswer : ℕ → List ℕ → ReadAnswer
 readAnswer m f = let n = readRefusal m f in ifAccepted n (acceptedRead (setOf m f)) (refusedRead n)
 
--- ---- the writer (its order: 02, Job 2): questions 1, 5 and 7
+-- ---- the writer (its order: 02, Job 2): questions 1, 3 of the line alone (02, Job 7), 5 and 7
 
-unfoldable pub writeRefusal : ℕ → Bool → List ℤ → List ℤ → List ℤ → ℕ → ℕ
-writeRefusal m hasIncurred c d e room = firstNo ((1, q1 m) ∷ (5, q5Writer m hasIncurred c d e) ∷ (7, q7Writer m hasIncurred room) ∷ [])
+unfoldable pub writeRefusal : ℕ → ℕ → Bool → List ℤ → List ℤ → List ℤ → ℕ → ℕ
+writeRefusal m line hasIncurred c d e room =
+    firstNo ((1, q1 m) ∷ (3, isLine line) ∷ (5, q5Writer m hasIncurred c d e) ∷ (7, q7Writer m hasIncurred room) ∷ [])
 
 -- the output afterwards: the set's file, and behind it what stood there; a refusal leaves it as it
 -- was
-unfoldable pub writeOutput : ℕ → Bool → List ℤ → List ℤ → List ℤ → List ℕ → List ℕ
-writeOutput m hasIncurred c d e before =
-    ifAccepted (writeRefusal m hasIncurred c d e (length before)) (fileOf m (givenSet m hasIncurred c d e) ++ drop (setLength m hasIncurred) before) before
+unfoldable pub writeOutput : ℕ → ℕ → Bool → List ℤ → List ℤ → List ℤ → List ℕ → List ℕ
+writeOutput m line hasIncurred c d e before =
+    ifAccepted (writeRefusal m line hasIncurred c d e (length before)) (fileOf m (givenSet m line hasIncurred c d e) ++ drop (setLength m hasIncurred) before) before
 
 -- ---- shares and ultimates: questions 1 to 5 and 9 to 11
 
 unfoldable pub sharesRefusal : ℕ → List ℕ → ℕ
 sharesRefusal m f = let s = setOf m f in callRefusal m f [] (ofShares m (s .counts) (s .paid))
 
-abbrev pub acceptedShares : List ℤ → List ℤ → List ℤ → List ℤ → List ℤ → SharesAnswer
-acceptedShares b n q g u = record { refusal = 0; b = b; n = n; q = q; g = g; u = u }
+abbrev pub acceptedShares : ℕ → List ℤ → List ℤ → List ℤ → List ℤ → List ℤ → SharesAnswer
+acceptedShares line b n q g u = record { refusal = 0; line = line; b = b; n = n; q = q; g = g; u = u }
 
 unfoldable pub sharesOf : ℕ → TriangleSet → SharesAnswer
-sharesOf m s = acceptedShares (bList m (s .counts)) (ultimates m (s .counts)) (bList m (s .paid)) (gList m (s .paid)) (ultimates m (s .paid))
+sharesOf m s = acceptedShares (s .line) (bList m (s .counts)) (ultimates m (s .counts)) (bList m (s .paid)) (gList m (s .paid)) (ultimates m (s .paid))
 
 abbrev pub refusedShares : ℕ → SharesAnswer
-refusedShares k = record { refusal = k; b = zeros 20; n = zeros 20; q = zeros 20; g = zeros 20; u = zeros 20 }
+refusedShares k = record { refusal = k; line = 0; b = zeros 20; n = zeros 20; q = zeros 20; g = zeros 20; u = zeros 20 }
 
 unfoldable pub sharesAnswer : ℕ → List ℕ → SharesAnswer
 sharesAnswer m f = let n = sharesRefusal m f in ifAccepted n (sharesOf m (setOf m f)) (refusedShares n)
@@ -100,14 +103,17 @@ sharesAnswer m f = let n = sharesRefusal m f in ifAccepted n (sharesOf m (setOf 
 unfoldable pub delaysRefusal : ℕ → List ℕ → ℕ
 delaysRefusal m f = let s = setOf m f in callRefusal m f [] (ofShares m (s .counts) (s .paid) ++ ofDelays m (delaysOf m s))
 
-abbrev pub acceptedDelays : List ℤ → DelaysAnswer
-acceptedDelays p = record { refusal = 0; p = p }
+abbrev pub acceptedDelays : ℕ → List ℤ → DelaysAnswer
+acceptedDelays line p = record { refusal = 0; line = line; p = p }
 
 abbrev pub refusedDelays : ℕ → DelaysAnswer
-refusedDelays n = record { refusal = n; p = zeros 20 }
+refusedDelays n = record { refusal = n; line = 0; p = zeros 20 }
 
 unfoldable pub delaysAnswer : ℕ → List ℕ → DelaysAnswer
-delaysAnswer m f = let n = delaysRefusal m f in ifAccepted n (acceptedDelays (delaysOf m (setOf m f))) (refusedDelays n)
+delaysAnswer m f =
+    let s = setOf m f in
+    let n = delaysRefusal m f in
+    ifAccepted n (acceptedDelays (s .line) (delaysOf m s)) (refusedDelays n)
 
 -- ---- given delays (02, Job 6): the same questions, 20 in place of 12
 
@@ -116,6 +122,15 @@ checkDelaysRefusal m f p =
     let s = setOf m f in
     callRefusal m f [] (ofShares m (s .counts) (s .paid) ++ ofGivenDelays m (s .counts) (s .paid) p)
 
+abbrev pub acceptedCheck : ℕ → CheckDelaysAnswer
+acceptedCheck line = record { refusal = 0; line = line }
+
+abbrev pub refusedCheck : ℕ → CheckDelaysAnswer
+refusedCheck n = record { refusal = n; line = 0 }
+
+unfoldable pub checkDelaysAnswer : ℕ → List ℕ → List ℤ → CheckDelaysAnswer
+checkDelaysAnswer m f p = let n = checkDelaysRefusal m f p in ifAccepted n (acceptedCheck (setOf m f .line)) (refusedCheck n)
+
 -- ---- the forecast: questions 1 to 14, without 8
 
 unfoldable pub forecastRefusal : ℕ → List ℕ → ℕ → ℕ → ℕ → ℕ
@@ -123,16 +138,17 @@ forecastRefusal m f method basis room =
     let s = setOf m f in
     callRefusal m f ((6, q6 (hasIncurred m f) method basis) ∷ (7, q7 m room) ∷ []) (ofForecast m s (delaysOf m s) method)
 
-abbrev pub acceptedForecast : List ℤ → ForecastAnswer
-acceptedForecast l = record { refusal = 0; leftovers = l }
+abbrev pub acceptedForecast : ℕ → List ℤ → ForecastAnswer
+acceptedForecast line l = record { refusal = 0; line = line; leftovers = l }
 
 abbrev pub refusedForecast : ℕ → ForecastAnswer
-refusedForecast n = record { refusal = n; leftovers = zeros 20 }
+refusedForecast n = record { refusal = n; line = 0; leftovers = zeros 20 }
 
 unfoldable pub forecastAnswer : ℕ → List ℕ → ℕ → ℕ → ℕ → ForecastAnswer
 forecastAnswer m f method basis room =
+    let s = setOf m f in
     let n = forecastRefusal m f method basis room in
-    ifAccepted n (acceptedForecast (leftovers m (setOf m f) method)) (refusedForecast n)
+    ifAccepted n (acceptedForecast (s .line) (leftovers m s method)) (refusedForecast n)
 
 -- the output afterwards: a refusal leaves it as it was
 unfoldable pub forecastOutput : ℕ → List ℕ → ℕ → ℕ → List ℤ → List ℤ
@@ -155,8 +171,9 @@ forecastWithRefusal m f method basis p room =
 
 unfoldable pub forecastWithAnswer : ℕ → List ℕ → ℕ → ℕ → List ℤ → ℕ → ForecastAnswer
 forecastWithAnswer m f method basis p room =
+    let s = setOf m f in
     let n = forecastWithRefusal m f method basis p room in
-    ifAccepted n (acceptedForecast (leftovers m (setOf m f) method)) (refusedForecast n)
+    ifAccepted n (acceptedForecast (s .line) (leftovers m s method)) (refusedForecast n)
 
 -- the output afterwards: a refusal leaves it as it was
 unfoldable pub forecastWithOutput : ℕ → List ℕ → ℕ → ℕ → List ℤ → List ℤ → List ℤ
@@ -172,14 +189,17 @@ pub record ForecastedWith (m : ℕ) (f : List ℕ) (method basis : ℕ) (p befor
 
 -- ---- claim costs: the questions of the shares
 
-abbrev pub acceptedClaimCosts : ClaimCosts → ClaimCostsAnswer
-acceptedClaimCosts c = record { refusal = 0; costs = c }
+abbrev pub acceptedClaimCosts : ℕ → ClaimCosts → ClaimCostsAnswer
+acceptedClaimCosts line c = record { refusal = 0; line = line; costs = c }
 
 abbrev pub refusedClaimCosts : ℕ → ClaimCostsAnswer
-refusedClaimCosts n = record { refusal = n; costs = noClaimCosts }
+refusedClaimCosts n = record { refusal = n; line = 0; costs = noClaimCosts }
 
 unfoldable pub claimCostsAnswer : ℕ → List ℕ → ClaimCostsAnswer
-claimCostsAnswer m f = let n = sharesRefusal m f in ifAccepted n (acceptedClaimCosts (claimCosts m (setOf m f))) (refusedClaimCosts n)
+claimCostsAnswer m f =
+    let s = setOf m f in
+    let n = sharesRefusal m f in
+    ifAccepted n (acceptedClaimCosts (s .line) (claimCosts m s)) (refusedClaimCosts n)
 
 -- ---- the back-test: questions 1 to 6 and 8, then 9 to 14 of the cut set
 
@@ -188,18 +208,18 @@ backTestRefusal m f c method basis =
     let s = cutTo (m - c) (setOf m f) in
     callRefusal m f ((6, q6 (hasIncurred m f) method basis) ∷ (8, q8 m c) ∷ []) (ofForecast (m - c) s (delaysOf (m - c) s) method)
 
-abbrev pub acceptedBackTest : ℕ → ℕ → ℕ → ℕ → BackTestAnswer
-acceptedBackTest cells cell year all = record { refusal = 0; cells = cells; cellwise = cell; yearwise = year; overall = all }
+abbrev pub acceptedBackTest : ℕ → ℕ → ℕ → ℕ → ℕ → BackTestAnswer
+acceptedBackTest line cells cell year all = record { refusal = 0; line = line; cells = cells; cellwise = cell; yearwise = year; overall = all }
 
 unfoldable pub backTestOf : ℕ → TriangleSet → ℕ → ℕ → ℕ → BackTestAnswer
 backTestOf m s c method basis =
     let n = m - c in
     let p = delaysOf n (cutTo n s) in
     let d : ℕ → ℕ → ℤ = gap m n s p method basis in
-    acceptedBackTest (cellNumber c n) (cellwise n d) (yearwise n c d) (overall n d)
+    acceptedBackTest (s .line) (cellNumber c n) (cellwise n d) (yearwise n c d) (overall n d)
 
 abbrev pub refusedBackTest : ℕ → BackTestAnswer
-refusedBackTest n = record { refusal = n; cells = 0; cellwise = 0; yearwise = 0; overall = 0 }
+refusedBackTest n = record { refusal = n; line = 0; cells = 0; cellwise = 0; yearwise = 0; overall = 0 }
 
 unfoldable pub backTestAnswer : ℕ → List ℕ → ℕ → ℕ → ℕ → BackTestAnswer
 backTestAnswer m f c method basis =
@@ -294,14 +314,14 @@ cashRefusal m f method basis v a b =
     let s = setOf m f in
     callRefusal m f ((6, q6 (hasIncurred m f) method basis) ∷ []) (ofForecast m s (delaysOf m s) method ++ ((19, q19 m v a b) ∷ []))
 
-abbrev pub acceptedCash : ℤ → CashAnswer
-acceptedCash z = record { refusal = 0; amount = z }
+abbrev pub acceptedCash : ℕ → ℤ → CashAnswer
+acceptedCash line z = record { refusal = 0; line = line; amount = z }
 
 abbrev pub refusedCash : ℕ → CashAnswer
-refusedCash n = record { refusal = n; amount = pos 0 }
+refusedCash n = record { refusal = n; line = 0; amount = pos 0 }
 
 -- the window from a to b, by the valuation date v: of the very tally whose text `closing` prints
 unfoldable pub cashAnswer : ℕ → List ℕ → ℕ → ℕ → Date → Date → Date → CashAnswer
 cashAnswer m f method basis v a b =
     let n = cashRefusal m f method basis v a b in
-    ifAccepted n (acceptedCash (cashIn (2 * m - 2) (fileTally m f method basis) v a b)) (refusedCash n)
+    ifAccepted n (acceptedCash (setOf m f .line) (cashIn (2 * m - 2) (fileTally m f method basis) v a b)) (refusedCash n)

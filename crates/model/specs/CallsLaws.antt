@@ -25,6 +25,10 @@ module _ {A : Type 0} (n : ℕ) (yes no : A) where
   pub number-of : (number : A → ℕ) → number yes ≡ 0 → number no ≡ n → number (ifAccepted n yes no) ≡ n
   number-of number y o = by-test (eqb n 0) (λ t. let z : n ≡ 0 = eqb-true n 0 t in rw t (y ∙ sym z)) (λ t. rw t o)
 
+-- a part of what is accepted, over what stands there, is that part of the answer
+pub beside : {A B : Type 0} (n : ℕ) (a b : A) (part : A → B) (x : B) → ifAccepted n (part a) x ≡ ifAccepted n (part (ifAccepted n a b)) x
+beside n a b part x = by-test (eqb n 0) (λ t. rw t) (λ t. rw t)
+
 -- what is written of an answer over what stands beside its refusal is the answer's
 pub as-answered : {A B : Type 0} (n : ℕ) (a b : A) (part : A → B) (x : B) → part b ≡ x → ifAccepted n (part (ifAccepted n a b)) x ≡ part (ifAccepted n a b)
 as-answered n a b part x e = by-test (eqb n 0) (λ t. rw t) (λ t. rw (t, e))
@@ -39,9 +43,13 @@ module _ (m : ℕ) (f : List ℕ) (own ofSet : List Question) where
   unfolding callRefusal readRefusal
   by-file = stage-no (ofFile m f) (own ++ ofSet) file-numbered
 
-  after-file : readRefusal m f ≡ 0 → callRefusal m f own ofSet ≡ firstNo (own ++ ofSet)
+  pub after-file : readRefusal m f ≡ 0 → callRefusal m f own ofSet ≡ firstNo (own ++ ofSet)
   unfolding callRefusal readRefusal
   after-file = stage-yes (ofFile m f) (own ++ ofSet) file-numbered
+
+  pub read-passed : callRefusal m f own ofSet ≡ 0 → readRefusal m f ≡ 0
+  unfolding callRefusal readRefusal
+  read-passed z = stages-so (ofFile m f) (own ++ ofSet) file-numbered z .0
 
   module _ (numbers : numbered own ≡ true) where
     pub by-set : readRefusal m f ≡ 0 → firstNo own ≡ 0 → callRefusal m f own ofSet ≡ firstNo ofSet

@@ -29,10 +29,10 @@ use Rattle.model.specs.Calls.{callRefusal, readRefusal, sharesRefusal, s
 pub data Example : Type 0 where
   set : ℕ → List ℕ → Example
 
--- row i of kind t, from delay j on
+-- row i of kind t, from delay j on, of line 0
 unfoldable pub rowOf : ℕ → ℕ → ℕ → List ℕ → List ℕ
 rowOf t i j [] = []
-rowOf t i j (x ∷ xs) = recordOf t i j x ++ rowOf t i (j + 1) xs
+rowOf t i j (x ∷ xs) = recordOf t i j 0 x ++ rowOf t i (j + 1) xs
 
 -- the rows x, y / z of kind t, of a set with m = 2
 unfoldable pub two : ℕ → ℕ → ℕ → ℕ → List ℕ

@@ -1,14 +1,14 @@
 -- Examples of our own, for what 01's leave open. The values are those of an independent calculation
 -- with big numbers.
-use Prim.Native.Nat.{ℕ, _+_, _-_, _^_}
+use Prim.Native.Nat.{ℕ, _+_, _-_, _%_, _^_}
 use mathlib.Core.Path.{_≡_, refl}
-use mathlib.Core.Bool.{Bool, true, false, _&&_}
+use mathlib.Core.Bool.{Bool, true, false, _&&_, cond}
 use mathlib.Core.List.{List, [], _∷_, _++_}
 use lib.Dec.{T, eqb}
 use lib.IntN.{ℤ, pos, negℤ, _*ℤ_}
-use lib.ListN.{take, replicate, set}
+use lib.ListN.{length, take, replicate, getD, set}
 use lib.Ieee.{div, ofInt}
-use Rattle.model.specs.Lists.{chained}
+use Rattle.model.specs.Lists.{tabulate, chained}
 use Rattle.model.specs.Records.{setOf}
 use Rattle.model.specs.Delays.{delaysOf}
 use Rattle.model.specs.RowBases.{leftovers}
@@ -27,6 +27,10 @@ use Rattle.model.specs.declared.TriangleSet.{TriangleSet}
 unfoldable pub K : List ℕ
 K = two 0 80 20 90 ++ two 1 600 400 660 ++ two 2 900 100 1080
 
+-- a file with another line of cover in each record (02, Job 7)
+unfoldable pub relined : ℕ → List ℕ → List ℕ
+relined line f = tabulate (length f) (λ p. cond (eqb (p % 16) 3) line (getD f p 0))
+
 -- -n
 abbrev pub less : ℕ → ℤ
 less n = negℤ (pos n)
@@ -36,10 +40,10 @@ unfoldable pub rowsOf : List (List ℤ) → List ℤ
 rowsOf [] = []
 rowsOf (xs ∷ rows) = take 20 (xs ++ replicate 20 (pos 0)) ++ rowsOf rows
 
--- a set of counts, paid and incurred: what follows goes over sets, since by computation it takes
--- long to read a file
+-- a set of counts, paid and incurred, of line 4: what follows goes over sets, since by computation
+-- it takes long to read a file
 abbrev pub ofRows : List (List ℤ) → List (List ℤ) → List (List ℤ) → TriangleSet
-ofRows c d e = record { «has_incurred» = true; counts = rowsOf c; paid = rowsOf d; incurred = rowsOf e }
+ofRows c d e = record { line = 4; «has_incurred» = true; counts = rowsOf c; paid = rowsOf d; incurred = rowsOf e }
 
 -- counts of m = 3
 abbrev counts3 : List (List ℤ)
@@ -114,6 +118,7 @@ unfoldable pub refusedSet : ℕ → ℕ → ℕ → ℤ → ℤ → ℤ → ℕ 
 refusedSet x y z a b c method n =
     let s : TriangleSet =
     record {
+      line = 0;
       «has_incurred» = true;
       counts = lentCells (pos 0) (pos 1) (pos 0) (pos 1);
       paid = lentCells (pos 0) (pos x) (pos y) (pos z);
@@ -142,11 +147,13 @@ forecasts =
 
 unfoldable pub refusals : List Bool
 refusals =
-    -- 3: a kind that the length does not allow, year 0, a cell outside, a spare byte not zero
-    refused (recordOf 2 1 0 1 ++ recordOf 0 1 1 0 ++ recordOf 0 2 0 1 ++ two 1 1 0 1) 0 3 ∷ refused (recordOf 0 0 0 1 ++ recordOf 0 1 1 0 ++ recordOf 0 2 0 1 ++ two 1 1 0 1) 0 3
-    ∷ refused (recordOf 0 1 0 1 ++ recordOf 0 2 1 0 ++ recordOf 0 2 0 1 ++ two 1 1 0 1) 0 3 ∷ refused (set K 7 1) 0 3
+    -- 3: a kind that the length does not allow, year 0, a cell outside, a spare byte not zero, two
+    -- lines of cover, line 6; passed: line 5
+    refused (recordOf 2 1 0 0 1 ++ recordOf 0 1 1 0 0 ++ recordOf 0 2 0 0 1 ++ two 1 1 0 1) 0 3 ∷ refused (recordOf 0 0 0 0 1 ++ recordOf 0 1 1 0 0 ++ recordOf 0 2 0 0 1 ++ two 1 1 0 1) 0 3
+    ∷ refused (recordOf 0 1 0 0 1 ++ recordOf 0 2 1 0 0 ++ recordOf 0 2 0 0 1 ++ two 1 1 0 1) 0 3 ∷ refused (set K 7 1) 0 3
+    ∷ refused (set K 131 1) 0 3 ∷ refused (relined 6 K) 0 3 ∷ refused (relined 5 K) 0 0
     -- 4: a cell twice and another missing; 5: a count of 10,000,001; 6: no incurred
-    ∷ refused (two 0 80 20 90 ++ recordOf 1 1 0 600 ++ recordOf 1 1 0 600 ++ recordOf 1 2 0 660) 0 4
+    ∷ refused (two 0 80 20 90 ++ recordOf 1 1 0 0 600 ++ recordOf 1 1 0 0 600 ++ recordOf 1 2 0 0 660) 0 4
     ∷ refused (two 0 80 20 10000001 ++ two 1 600 400 660) 0 5 ∷ refused (two 0 80 20 90 ++ two 1 600 400 660) 1 6
     -- 9: a row without counts; 10: no paid money in row 1
     ∷ refused (two 0 80 20 0 ++ two 1 600 400 660) 0 9 ∷ refused (two 0 80 20 90 ++ two 1 0 0 660) 0 10
@@ -164,7 +171,7 @@ refusals =
 
 unfoldable pub opened-further : ℕ
 unfolding
-    opened K rowsOf negativeSet unpaid settled few four sameList sameFraction allTrue refused leftOver3 output3 refusedSet forecasts refusals
+    opened K relined rowsOf negativeSet unpaid settled few four sameList sameFraction allTrue refused leftOver3 output3 refusedSet forecasts refusals
     GDown G H reserve bound
     quotient meanCost factor inflation claimCosts noClaimCosts claimCostsAnswer div ofInt
     readAnswer writeRefusal writeOutput q5Writer q7Writer chained word ofKind fileOf

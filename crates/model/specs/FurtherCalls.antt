@@ -7,9 +7,9 @@ use mathlib.Core.List.{List, [], _∷_, _++_}
 use lib.IntN.{ℤ, pos}
 use lib.ListN.{replicate}
 use Rattle.model.specs.Questions.{q8}
-use Rattle.model.specs.Calls.{writeOutput, refusedForecast, forecastAnswer, forecastOutput, acceptedBackTest, refusedBackTest, backTestOf, backTestAnswer}
+use Rattle.model.specs.Calls.{writeRefusal, writeOutput, refusedForecast, forecastAnswer, forecastOutput, acceptedBackTest, refusedBackTest, backTestOf, backTestAnswer}
 use Rattle.model.specs.Examples.{two}
-use Rattle.model.specs.Further.{K, less, ofRows, four, lentCells, opened-further}
+use Rattle.model.specs.Further.{K, relined, less, ofRows, four, lentCells, opened-further}
 use Rattle.model.specs.declared.TriangleSet.{TriangleSet}
 
 -- ---- the back-test
@@ -23,8 +23,8 @@ five =
 
 -- three cells, and all three errors differ; of m = 4 with cut 1 two cells, with cut 2 one
 pub cut-sets :
-    (backTestOf 5 five 2 0 0 ≡ acceptedBackTest 3 154 94 40) × (backTestOf 4 four 1 0 0 ≡ acceptedBackTest 2 127 67 67)
-    × (backTestOf 4 four 2 0 0 ≡ acceptedBackTest 1 22 22 22)
+    (backTestOf 5 five 2 0 0 ≡ acceptedBackTest 4 3 154 94 40) × (backTestOf 4 four 1 0 0 ≡ acceptedBackTest 4 2 127 67 67)
+    × (backTestOf 4 four 2 0 0 ≡ acceptedBackTest 4 1 22 22 22)
 unfolding opened-further five
 cut-sets = (refl, refl, refl)
 
@@ -46,9 +46,15 @@ short = (refl, refl)
 abbrev given : ℤ → ℤ → ℤ → List ℤ
 given x y z = lentCells (less (2 ^ 63)) x y z
 
--- 02, Job 2: the file of K without incurred, by kind, year and delay
+-- 02, Job 2: the file of K without incurred, by kind, year and delay; and Job 7: each record has the
+-- line
 pub written-order :
-    writeOutput 2 false (given (pos 80) (pos 20) (pos 90)) (given (pos 600) (pos 400) (pos 660)) (given (pos 900) (pos 100) (pos 1080)) (replicate 96 7)
-    ≡ two 0 80 20 90 ++ two 1 600 400 660
+    writeOutput 2 3 false (given (pos 80) (pos 20) (pos 90)) (given (pos 600) (pos 400) (pos 660)) (given (pos 900) (pos 100) (pos 1080)) (replicate 96 7)
+    ≡ relined 3 (two 0 80 20 90 ++ two 1 600 400 660)
 unfolding opened-further
 written-order = refl
+
+-- m, the line and a value out of range, and no room: 1 comes before 3, and 3 before 5 and 7
+pub unwritten : (writeRefusal 1 6 false (given (less 1) (pos 20) (pos 90)) [] [] 0 ≡ 1) × (writeRefusal 2 6 false (given (less 1) (pos 20) (pos 90)) [] [] 0 ≡ 3)
+unfolding opened-further
+unwritten = (refl, refl)

@@ -23,6 +23,10 @@ pub set-most : (m : ℕ) (there : Bool) → m ≤ 20 → setLength m there ≤ 1
 set-most m true hi = omega (arith, cells-most m hi)
 set-most m false hi = omega (arith, cells-most m hi)
 
+pub set-least : (m : ℕ) (there : Bool) → 2 ≤ m → 96 ≤ setLength m there
+set-least m true lo = omega (arith, cells-least m lo)
+set-least m false lo = omega (arith, cells-least m lo)
+
 pub kinds-range : (there : Bool) → (2 ≤ kinds there) × (kinds there ≤ 3)
 unfolding kinds
 kinds-range true = (omega arith, omega arith)

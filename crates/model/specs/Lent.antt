@@ -2,12 +2,11 @@
 -- each (01, Triangle records).
 use Prim.Native.Nat.{ℕ, _+_, _-_, _*_, _<_}
 use mathlib.Core.Path.{_≡_}
-use mathlib.Core.Bool.{Bool}
 use mathlib.Core.List.{List}
 use lib.IntN.{ℤ, pos}
 use Rattle.model.specs.Lists.{tabulate, at}
 use Rattle.model.specs.ListsLaws.{getD-tabulate}
-use Rattle.model.specs.Records.{setOf, hasIncurred}
+use Rattle.model.specs.Records.{setOf}
 use Rattle.model.specs.Calls.{readRefusal}
 use Rattle.model.specs.declared.TriangleSet.{TriangleSet}
 
@@ -15,11 +14,13 @@ use Rattle.model.specs.declared.TriangleSet.{TriangleSet}
 unfoldable pub triangleIn : ℕ → List ℤ → List ℤ
 triangleIn kind set = tabulate 400 (λ p. at set (400 * kind + p))
 
--- the set that such a list holds
-abbrev pub lentSet : Bool → List ℤ → TriangleSet
-lentSet hasIncurred set =
+-- the set that such a list holds, where s says what stands beside the triangles: the list has
+-- neither the line nor whether incurred is there
+abbrev pub lentSet : TriangleSet → List ℤ → TriangleSet
+lentSet s set =
     record {
-      «has_incurred» = hasIncurred;
+      line = s .line;
+      «has_incurred» = s .«has_incurred»;
       counts = triangleIn 0 set;
       paid = triangleIn 1 set;
       incurred = triangleIn 2 set;
@@ -29,7 +30,7 @@ lentSet hasIncurred set =
 -- got a yes the file's set
 pub record ReadInto (m : ℕ) (f : List ℕ) (n : ℕ) (set : List ℤ) : Type 0 where
   pub result : n ≡ readRefusal m f
-  pub holds : n ≡ 0 → lentSet (hasIncurred m f) set ≡ setOf m f
+  pub holds : n ≡ 0 → lentSet (setOf m f) set ≡ setOf m f
 
 pub at-triangle : (kind p : ℕ) (set : List ℤ) → p < 400 → at (triangleIn kind set) p ≡ at set (400 * kind + p)
 unfolding triangleIn

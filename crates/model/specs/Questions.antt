@@ -7,7 +7,7 @@ use lib.IntN.{ℤ, pos, negℤ}
 use lib.ListN.{length}
 use lib.Signed.{leZ, ltZ}
 use Rattle.model.specs.Lists.{every, at}
-use Rattle.model.specs.Records.{inside, cell, kindAt, yearAt, delayAt, sparesZero, valueAt, records, copies, setLength, hasIncurred, inRange}
+use Rattle.model.specs.Records.{inside, cell, kindAt, yearAt, delayAt, lineAt, lineOf, sparesZero, valueAt, records, copies, setLength, hasIncurred, isLine, inRange}
 use Rattle.model.specs.Shares.{latest, A, B, g, bList}
 use Rattle.model.specs.Delays.{solvesAt}
 use Rattle.model.specs.RowBases.{rowBase}
@@ -35,9 +35,12 @@ q2 m f = eqb (length f) (setLength m false) || eqb (length f) (setLength m true)
 unfoldable pub kinds : Bool → ℕ
 kinds hasIncurred = cond hasIncurred 3 2
 
--- 3, of record k: its kind is one of the set's, its cell inside the triangle, its spare bytes zero
+-- 3, of record k: its kind is one of the set's, its cell inside the triangle, its line (02, Job 7)
+-- one that there is and the file's, its spare bytes zero
 unfoldable pub recordOk : ℕ → List ℕ → ℕ → Bool
-recordOk m f k = ltb (kindAt f k) (kinds (hasIncurred m f)) && inside m (yearAt f k) (delayAt f k) && sparesZero f k
+recordOk m f k =
+    ltb (kindAt f k) (kinds (hasIncurred m f)) && inside m (yearAt f k) (delayAt f k)
+    && (isLine (lineAt f k) && eqb (lineAt f k) (lineOf f)) && sparesZero f k
 
 -- 3: of every record
 unfoldable pub q3 : ℕ → List ℕ → Bool

@@ -1,5 +1,5 @@
--- 01, Triangle records: each definition here is of that section. A file is the list of its bytes; m
--- is the caller's.
+-- 01, Triangle records, and 02, Job 7: a line of cover in each record. A file is the list of its
+-- bytes; m is the caller's.
 use Prim.Native.Nat.{ℕ, zero, suc, _+_, _*_, _-_, _/_, _%_, _^_}
 use mathlib.Core.Bool.{Bool, true, _&&_, cond}
 use mathlib.Core.List.{List}
@@ -36,11 +36,18 @@ yearAt f k = getD f (16 * k + 1) 0
 abbrev pub delayAt : List ℕ → ℕ → ℕ
 delayAt f k = getD f (16 * k + 2) 0
 
--- whether the five unused bytes of record k are zero
+-- the line of cover of record k
+abbrev pub lineAt : List ℕ → ℕ → ℕ
+lineAt f k = getD f (16 * k + 3) 0
+
+-- that of a file: its first record's; the records of an accepted file all have the same
+abbrev pub lineOf : List ℕ → ℕ
+lineOf f = lineAt f 0
+
+-- whether the four unused bytes of record k are zero
 unfoldable pub sparesZero : List ℕ → ℕ → Bool
 sparesZero f k =
-    eqb (getD f (16 * k + 3) 0) 0 && eqb (getD f (16 * k + 4) 0) 0 && eqb (getD f (16 * k + 5) 0) 0
-    && eqb (getD f (16 * k + 6) 0) 0 && eqb (getD f (16 * k + 7) 0) 0
+    eqb (getD f (16 * k + 4) 0) 0 && eqb (getD f (16 * k + 5) 0) 0 && eqb (getD f (16 * k + 6) 0) 0 && eqb (getD f (16 * k + 7) 0) 0
 
 -- n bytes from place a on as a number in base 256, the lowest digit in front
 unfoldable pub leastFirst : ℕ → List ℕ → ℕ → ℕ
@@ -84,6 +91,7 @@ hasIncurred m f = eqb (length f) (setLength m true)
 unfoldable pub setOf : ℕ → List ℕ → TriangleSet
 setOf m f =
     record {
+      line = lineOf f;
       «has_incurred» = hasIncurred m f;
       counts = triangle m (valueOf f 0);
       paid = triangle m (valueOf f 1);
@@ -91,14 +99,19 @@ setOf m f =
     }
 
 -- the set that the writer is given, as the reader hands it back: the cells alone count
-unfoldable pub givenSet : ℕ → Bool → List ℤ → List ℤ → List ℤ → TriangleSet
-givenSet m hasIncurred c d e =
+unfoldable pub givenSet : ℕ → ℕ → Bool → List ℤ → List ℤ → List ℤ → TriangleSet
+givenSet m line hasIncurred c d e =
     record {
+      line = line;
       «has_incurred» = hasIncurred;
       counts = triangle m (cell c);
       paid = triangle m (cell d);
       incurred = cond hasIncurred (triangle m (cell e)) (replicate 400 (pos 0));
     }
+
+-- whether there is such a line: 0 to 5
+abbrev pub isLine : ℕ → Bool
+isLine line = leb line 5
 
 -- whether a value of kind t is in its range: from 0, for incurred from -10^10, to 10^7 for a count
 -- and 10^10 for an amount

@@ -1,4 +1,5 @@
--- 02, Job 2: the file of a set. A record is that of 01, Triangle records.
+-- 02, Job 2: the file of a set. A record is that of 01, Triangle records, with the line of cover of
+-- 02, Job 7.
 use Prim.Native.Nat.{ℕ, zero, suc, _-_, _/_, _%_, _^_}
 use mathlib.Core.List.{List, [], _∷_}
 use lib.IntN.{ℤ, pos, negsuc}
@@ -17,9 +18,9 @@ unfoldable pub bytes : ℕ → ℕ → List ℕ
 bytes zero x = []
 bytes (suc n) x = (x % 256) ∷ bytes n (x / 256)
 
--- the record of kind t and cell (i,j): five unused bytes, and the word x of its value
-unfoldable pub recordOf : ℕ → ℕ → ℕ → ℕ → List ℕ
-recordOf t i j x = t ∷ i ∷ j ∷ 0 ∷ 0 ∷ 0 ∷ 0 ∷ 0 ∷ bytes 8 x
+-- the record of kind t, cell (i,j) and a line: four unused bytes, and the word x of its value
+unfoldable pub recordOf : ℕ → ℕ → ℕ → ℕ → ℕ → List ℕ
+recordOf t i j line x = t ∷ i ∷ j ∷ line ∷ 0 ∷ 0 ∷ 0 ∷ 0 ∷ bytes 8 x
 
 -- the triangle of kind t
 unfoldable pub ofKind : TriangleSet → ℕ → List ℤ
@@ -30,4 +31,4 @@ ofKind s (suc (suc t)) = s .incurred
 -- the file of a set: a record for each cell, by kind t, then accident year i = k + 1, then delay j
 unfoldable pub fileOf : ℕ → TriangleSet → List ℕ
 fileOf m s =
-    chained (kinds (s .«has_incurred»)) (λ t. chained m (λ k. chained (m - k) (λ j. recordOf t (suc k) j (word (cell (ofKind s t) (suc k) j)))))
+    chained (kinds (s .«has_incurred»)) (λ t. chained m (λ k. chained (m - k) (λ j. recordOf t (suc k) j (s .line) (word (cell (ofKind s t) (suc k) j)))))

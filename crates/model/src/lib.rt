@@ -5,16 +5,18 @@ ghost use mathlib.Core.Path.{_≡_};
 ghost use lib.IntN.{_+ℤ_};
 ghost use Rattle.model.specs.Calendar.{fits64, tallyAdd};
 
-// A set of triangles: cell (i,j) at 20 × (i-1) + j, zeros in the other places. `has_incurred` says
-// that incurred is there beside counts and paid.
+// A set of triangles: its line of cover (02, Job 7), 0 to 5, and cell (i,j) at 20 × (i-1) + j, with
+// zeros in the other places. `has_incurred` says that incurred is there beside counts and paid.
 pub struct TriangleSet {
+    pub line: u64,
     pub has_incurred: bool,
     pub counts: [i64; 400],
     pub paid: [i64; 400],
     pub incurred: [i64; 400],
 }
 
-// What the reader hands back. A refusal of 0 says that the file is accepted.
+// What the reader hands back. A refusal of 0 says that the file is accepted. In this and in every
+// answer below the line is that of the set, and 0 beside a refusal.
 pub struct ReadAnswer {
     pub refusal: u64,
     pub set: TriangleSet,
@@ -24,6 +26,7 @@ pub struct ReadAnswer {
 // place i - 1.
 pub struct SharesAnswer {
     pub refusal: u64,
+    pub line: u64,
     pub b: [i64; 20],
     pub n: [i64; 20],
     pub q: [i64; 20],
@@ -34,12 +37,20 @@ pub struct SharesAnswer {
 // The delays, p(l) at place l.
 pub struct DelaysAnswer {
     pub refusal: u64,
+    pub line: u64,
     pub p: [i64; 20],
+}
+
+// Whether given delays (02, Job 6) are accepted.
+pub struct CheckDelaysAnswer {
+    pub refusal: u64,
+    pub line: u64,
 }
 
 // The leftovers, beside the output that the caller lends; year i at place i - 1.
 pub struct ForecastAnswer {
     pub refusal: u64,
+    pub line: u64,
     pub leftovers: [i64; 20],
 }
 
@@ -111,6 +122,7 @@ pub struct ClaimCosts {
 
 pub struct ClaimCostsAnswer {
     pub refusal: u64,
+    pub line: u64,
     pub costs: ClaimCosts,
 }
 
@@ -118,6 +130,7 @@ pub struct ClaimCostsAnswer {
 // of the total.
 pub struct BackTestAnswer {
     pub refusal: u64,
+    pub line: u64,
     pub cells: u64,
     pub cellwise: u64,
     pub yearwise: u64,
@@ -156,6 +169,7 @@ pub struct Date {
 // What falls due in a window of dates (02, Job 5).
 pub struct CashAnswer {
     pub refusal: u64,
+    pub line: u64,
     pub amount: i64,
 }
 

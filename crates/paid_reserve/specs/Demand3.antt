@@ -19,7 +19,7 @@ use Rattle.model.specs.PaidReserve.{whole, distance, AtMost, reserve, bound, ye
 use Rattle.model.specs.declared.TriangleSet.{TriangleSet}
 use Rattle.chain_ladder.specs.DevelopedLaws.{Shared, counts-sound, paid-sound}
 use Rattle.chain_ladder.specs.SharesLaws.{Sound, at-bList, g-range}
-use Rattle.delays.specs.DelaysLaws.{Solves, solved}
+use Rattle.solver.specs.DelaysLaws.{Solves, solved}
 use Rattle.paid_reserve.specs.YearSum.{cellSum, yearCells}
 use Rattle.paid_reserve.specs.PaidReserve.{any-delays}
 

@@ -16,9 +16,8 @@ use Rattle.integers.specs.Sums.{sum, conv, sum-cong, sum-nothing, sum-split, su
 use Rattle.model.specs.Lists.{at}
 use Rattle.model.specs.Rounding.{S, r}
 use Rattle.model.specs.Cells.{pairs, rbnsFrom, ibnrFrom}
-use Rattle.arithmetic.specs.RoundingLaws.{r-near}
-use Rattle.chain_ladder.specs.SharesLaws.{S-pos}
-use Rattle.delays.specs.DelaysLaws.{Solves}
+use Rattle.arithmetic.specs.RoundingLaws.{S-pos, r-near}
+use Rattle.solver.specs.DelaysLaws.{Solves}
 
 -- two rounded parts of v × (x + y), at the scale s, against v × w
 two-parts : (s x y x′ y′ v w e : ℤ) → Half (s *ℤ x′ -ℤ v *ℤ x) s → Half (s *ℤ y′ -ℤ v *ℤ y) s → Half (x +ℤ y -ℤ w) e

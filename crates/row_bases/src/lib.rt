@@ -4,10 +4,10 @@ mod bases;
 use bases::row_bases;
 use chain_ladder::ladder::ultimates;
 ghost use mathlib.Core.Path.{_≡_};
-ghost use mathlib.Core.Bool.{Bool};
 ghost use Prim.Native.Nat.{_^_, _≤_};
 ghost use Rattle.model.specs.Calls.{zeros};
 ghost use Rattle.model.specs.Lent.{triangleIn, lentSet};
+ghost use Rattle.model.specs.declared.TriangleSet.{TriangleSet};
 ghost use Rattle.chain_ladder.specs.Sums.{Small};
 ghost use Rattle.chain_ladder.specs.Developed.{Ladder};
 ghost use Rattle.row_bases.specs.Method.{Asked, Under, Based};
@@ -37,7 +37,7 @@ pub fn method_bases<'a>(
 ) -> u64
     requires { ⌜ Asked m (triangleIn 0 (now set)) (triangleIn 1 (now set)) (triangleIn 2 (now set)) method ⌝ }
     requires { ⌜ Ladder m (triangleIn 1 (now set)) (now «paid_latest») (now «paid_g») × (now v ≡ zeros 20) ⌝ }
-    ensures { λ r. ⌜ ((has : Bool) → Based m (lentSet has (now (set .entry))) method r (now (v .exit)) (now (leftovers .entry)) (now (leftovers .exit))) ⌝ }
+    ensures { λ r. ⌜ ((like : TriangleSet) → Based m (lentSet like (now (set .entry))) method r (now (v .exit)) (now (leftovers .entry)) (now (leftovers .exit))) ⌝ }
 {
     let mut w = [0i64; 20];
     if !incurred_under(set, m, method, &mut w) {

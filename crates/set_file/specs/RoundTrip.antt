@@ -7,29 +7,29 @@ use mathlib.Core.Bool.{Bool, true, false, _&&_, _||_, not, cond}
 use mathlib.Core.List.{List}
 use lib.ListN.{length, replicate}
 use lib.IntN.{ℤ, pos}
-use Rattle.model.specs.Lists.{total}
+use Rattle.model.specs.Lists.{every, total}
 use Rattle.model.specs.ListsLaws.{and-left, and-right}
-use Rattle.model.specs.Records.{cell, valueOf, setLength, hasIncurred, triangle, setOf, givenSet, inRange}
+use Rattle.model.specs.Records.{cell, lineOf, records, valueOf, setLength, hasIncurred, triangle, setOf, givenSet, isLine, inRange}
 use Rattle.model.specs.Questions.{q1, q2, q3, q4, q5Writer, kinds, eachCell, firstNo, ofRecords, ofFile}
 use Rattle.model.specs.QuestionsLaws.{eachCell-at}
 use Rattle.model.specs.SetFile.{fileOf}
 use Rattle.model.specs.Calls.{acceptedRead, readRefusal, readAnswer}
-use Rattle.model.specs.Lengths.{kinds-range, size-so, length-yes}
-use Rattle.triangles.specs.OneRecord.{q3-formed}
+use Rattle.model.specs.Lengths.{kinds-range, size-so, length-yes, set-least}
+use Rattle.triangles.specs.OneRecord.{wellFormed, q3-formed, line-so}
 use Rattle.set_file.specs.Written.{lentKind, setBytes, file-bytes}
 use Rattle.set_file.specs.WrittenLaws.{in-kind, length-kinds, third, fourth, fifth, triangle-held, triangle-none}
 
-module _ (m : ℕ) (c d e : List ℤ) (size : q1 m ≡ true) where
+module _ (m v : ℕ) (c d e : List ℤ) (size : q1 m ≡ true) where
   -- the file, as the bytes of the lists
-  is-bytes : (there : Bool) → fileOf m (givenSet m there c d e) ≡ setBytes m there c d e
-  is-bytes = file-bytes m (size-so m size .1) c d e
+  is-bytes : (there : Bool) → fileOf m (givenSet m v there c d e) ≡ setBytes m v there c d e
+  is-bytes = file-bytes m (size-so m size .1) v c d e
 
-  long : (there : Bool) → length (setBytes m there c d e) ≡ setLength m there
+  long : (there : Bool) → length (setBytes m v there c d e) ≡ setLength m there
   unfolding setBytes kinds total
-  long true = let n = in-kind m (size-so m size .1) in length-kinds m (lentKind c d e) 3 ∙ omega arith
-  long false = let n = in-kind m (size-so m size .1) in length-kinds m (lentKind c d e) 2 ∙ omega arith
+  long true = let n = in-kind m (size-so m size .1) in length-kinds m v (lentKind c d e) 3 ∙ omega arith
+  long false = let n = in-kind m (size-so m size .1) in length-kinds m v (lentKind c d e) 2 ∙ omega arith
 
-  pub length-file : (there : Bool) → length (fileOf m (givenSet m there c d e)) ≡ setLength m there
+  pub length-file : (there : Bool) → length (fileOf m (givenSet m v there c d e)) ≡ setLength m there
   length-file there = ap length (is-bytes there) ∙ long there
 
   -- question 5 of the writer, by kind
@@ -45,9 +45,9 @@ module _ (m : ℕ) (c d e : List ℤ) (size : q1 m ≡ true) where
   of-kind true h (suc (suc (suc t))) l = absurd (omega arith)
   of-kind false h (suc (suc (suc t))) l = absurd (omega arith)
 
-  module _ (there : Bool) (ok : q5Writer m there c d e ≡ true) where
+  module _ (there : Bool) (line : isLine v ≡ true) (ok : q5Writer m there c d e ≡ true) where
     abbrev written : List ℕ
-    written = setBytes m there c d e
+    written = setBytes m v there c d e
 
     in-range : (t i j : ℕ) → t < kinds there → 1 ≤ i → i + j ≤ m → inRange t (cell (lentKind c d e t) i j) ≡ true
     in-range t i j k l b = eachCell-at m _ (of-kind there ok t k) i j l b
@@ -57,35 +57,42 @@ module _ (m : ℕ) (c d e : List ℤ) (size : q1 m ≡ true) where
 
     once : q4 m written ≡ true
     unfolding q4 setBytes
-    once = rw (← second .1) (fourth m (lentKind c d e) (kinds there))
+    once = rw (← second .1) (fourth m v (lentKind c d e) (kinds there))
+
+    formed : every (records written) (wellFormed m (kinds there) v written) ≡ true
+    unfolding setBytes
+    formed = third m v (lentKind c d e) (kinds there) line
+
+    line-back : lineOf written ≡ v
+    line-back = line-so m (kinds there) v written (records written) (omega (arith, long there, set-least m there (size-so m size .0))) formed .1
 
     all-formed : q3 m written ≡ true
-    unfolding setBytes
-    all-formed = q3-formed m written ∙ rw (← second .1) (third m (lentKind c d e) (kinds there))
+    all-formed = q3-formed m written ∙ rw (← second .1, line-back) formed
 
     accepted : readRefusal m written ≡ 0
     unfolding readRefusal firstNo ofFile ofRecords setBytes
-    accepted = rw (size, second .0, all-formed, once, fifth m (lentKind c d e) (kinds there) in-range)
+    accepted = rw (size, second .0, all-formed, once, fifth m v (lentKind c d e) (kinds there) in-range)
 
     last : (b : Bool) → there ≡ b → triangle m (valueOf written 2) ≡ cond b (triangle m (cell e)) (replicate 400 (pos 0))
     unfolding setBytes kinds lentKind
-    last true z = triangle-held m (lentKind c d e) (kinds there) in-range 2 (rw z (omega arith))
-    last false z = triangle-none m (lentKind c d e) (kinds there) 2 (rw z (omega arith))
+    last true z = triangle-held m v (lentKind c d e) (kinds there) in-range 2 (rw z (omega arith))
+    last false z = triangle-none m v (lentKind c d e) (kinds there) 2 (rw z (omega arith))
 
-    set-back : setOf m written ≡ givenSet m there c d e
+    set-back : setOf m written ≡ givenSet m v there c d e
     unfolding setOf givenSet setBytes lentKind
     set-back =
         rw (
+          line-back,
           ← second .1,
-          triangle-held m (lentKind c d e) (kinds there) in-range 0 (omega (arith, kinds-range there)),
-          triangle-held m (lentKind c d e) (kinds there) in-range 1 (omega (arith, kinds-range there)),
+          triangle-held m v (lentKind c d e) (kinds there) in-range 0 (omega (arith, kinds-range there)),
+          triangle-held m v (lentKind c d e) (kinds there) in-range 1 (omega (arith, kinds-range there)),
           last there refl,
         )
 
-    pub once-each : q4 m (fileOf m (givenSet m there c d e)) ≡ true
+    pub once-each : q4 m (fileOf m (givenSet m v there c d e)) ≡ true
     once-each = ap (q4 m) (is-bytes there) ∙ once
 
     -- the reader hands back the set that was given
-    pub read-back : readAnswer m (fileOf m (givenSet m there c d e)) ≡ acceptedRead (givenSet m there c d e)
+    pub read-back : readAnswer m (fileOf m (givenSet m v there c d e)) ≡ acceptedRead (givenSet m v there c d e)
     unfolding readAnswer
     read-back = rw (is-bytes there, accepted, set-back)

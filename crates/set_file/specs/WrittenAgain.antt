@@ -25,8 +25,8 @@ use Rattle.triangles.specs.ReadCells.{writable}
 use Rattle.set_file.specs.RoundTrip.{read-back}
 
 -- files that differ in the order of their records alone
-pub file-order : (f g : List ℕ) → SameRecords f g → (m : ℕ) → fileOf m (setOf m f) ≡ fileOf m (setOf m g)
-file-order f g same m = ap (fileOf m) (set-order f g same m)
+pub file-order : (f g : List ℕ) → SameRecords f g → (m : ℕ) → readRefusal m f ≡ 0 → fileOf m (setOf m f) ≡ fileOf m (setOf m g)
+file-order f g same m accepted = ap (fileOf m) (set-order f g same m accepted)
 
 -- the set of a file that the reader accepts
 module _ (m : ℕ) (f : List ℕ) (accepted : readRefusal m f ≡ 0) where
@@ -45,16 +45,16 @@ module _ (m : ℕ) (f : List ℕ) (accepted : readRefusal m f ≡ 0) where
       let formed : q3 m f ≡ true = search in
       sum-nothing (records f)
       (λ k l. let y = rw e at (every-at (recordOk m f) (records f) k formed l) in
-      let b = ltb-true (kindAt f k) 2 (and-left _ _ (and-left _ _ y)) in
+      let b = ltb-true (kindAt f k) 2 (and-left _ _ (and-left _ _ (and-left _ _ y))) in
       rw (ne-eqb (kindAt f k) 2 (λ q. omega arith)))
 
   -- the set is as the writer takes it: zeros stand outside the cells
-  set-given : let s = setOf m f in s ≡ givenSet m (s .«has_incurred») (s .counts) (s .paid) (s .incurred)
+  set-given : let s = setOf m f in s ≡ givenSet m (s .line) (s .«has_incurred») (s .counts) (s .paid) (s .incurred)
   unfolding setOf givenSet
   set-given = rw (again 0, again 1, last)
     where
       again : (t : ℕ) → triangle m (cell (triangle m (valueOf f t))) ≡ triangle m (valueOf f t)
-      again t = triangle-again m (valueOf f t) (size-so m (writable m f accepted .0) .1)
+      again t = triangle-again m (valueOf f t) (size-so m (writable m f accepted .size) .1)
 
       last : cond (hasIncurred m f) (triangle m (cell (triangle m (valueOf f 2)))) (replicate 400 (pos 0)) ≡ triangle m (valueOf f 2)
       last = by-test (hasIncurred m f) (λ e. rw e (again 2)) (λ e. rw e (sym (triangle-zeros m (valueOf f 2) (none e))))
@@ -63,21 +63,21 @@ module _ (m : ℕ) (f : List ℕ) (accepted : readRefusal m f ≡ 0) where
   pub written-again :
       (before : List ℕ) → length f ≤ length before
       → let s = setOf m f in
-      (writeRefusal m (s .«has_incurred») (s .counts) (s .paid) (s .incurred) (length before) ≡ 0)
-      × (writeOutput m (s .«has_incurred») (s .counts) (s .paid) (s .incurred) before ≡ fileOf m s ++ drop (length f) before)
+      (writeRefusal m (s .line) (s .«has_incurred») (s .counts) (s .paid) (s .incurred) (length before) ≡ 0)
+      × (writeOutput m (s .line) (s .«has_incurred») (s .counts) (s .paid) (s .incurred) before ≡ fileOf m s ++ drop (length f) before)
   unfolding writeOutput writeRefusal firstNo q7Writer
   written-again before h =
       let w = writable m f accepted in
       let l = read-length in
       let y = le-leb (setLength m (setOf m f .«has_incurred»)) (length before) (omega arith) in
-      (rw (w .0, w .1, y), rw (w .0, w .1, y, ← set-given, l))
+      (rw (w .size, w .line, w .values, y), rw (w .size, w .line, w .values, y, ← set-given, l))
 
   -- that file is read as the same set
   pub read-again : readAnswer m (fileOf m (setOf m f)) ≡ acceptedRead (setOf m f)
   read-again =
       let g = set-given in
       let w = writable m f accepted in
-      ap (λ (s : TriangleSet). readAnswer m (fileOf m s)) g ∙ read-back m _ _ _ (w .0) _ (w .1) ∙ ap acceptedRead (sym g)
+      ap (λ (s : TriangleSet). readAnswer m (fileOf m s)) g ∙ read-back m _ _ _ _ (w .size) _ (w .line) (w .values) ∙ ap acceptedRead (sym g)
 
 -- two such files that are written again as one file hold the same set
 pub same-written :

@@ -14,7 +14,7 @@ use mir.Syntax.{w64}
 use mir.Val.{SFits}
 use Rattle.model.specs.Lists.{chained, every, total, count}
 use Rattle.model.specs.ListsLaws.{every-at, every-all, and-left, and-right}
-use Rattle.model.specs.Records.{cell, sparesZero, valueAt, leastFirst, signed, records, isOf, copies, valueOf, triangle, inRange}
+use Rattle.model.specs.Records.{cell, sparesZero, valueAt, leastFirst, signed, records, isOf, copies, valueOf, triangle, isLine, inRange}
 use Rattle.model.specs.RecordsLaws.{inside-yes, triangle-ext, triangle-zeros}
 use Rattle.model.specs.Questions.{q5, eachCell}
 use Rattle.model.specs.QuestionsLaws.{eachCell-all}
@@ -37,23 +37,23 @@ unfolding word signed
 word-back (pos n) s = rw (lt-ltb n (2 ^ 63) (s .sfits))
 word-back (negsuc n) s = let b = s .sfits in rw (le-ltb (2 ^ 64 - suc n) (2 ^ 63) (omega arith)) (ap negsuc (omega arith))
 
-module _ (t i j : ℕ) where
-  bytes-back : (x : ℕ) → x < 2 ^ 64 → leastFirst 8 (recordOf t i j x) 8 ≡ x
+module _ (t i j v : ℕ) where
+  bytes-back : (x : ℕ) → x < 2 ^ 64 → leastFirst 8 (recordOf t i j v x) 8 ≡ x
   unfolding recordOf bytes leastFirst
   bytes-back x h = omega arith
 
-  module _ (v : ℤ) (ok : inRange t v ≡ true) where
-    value-back : valueAt (recordOf t i j (word v)) 0 ≡ v
+  module _ (z : ℤ) (ok : inRange t z ≡ true) where
+    value-back : valueAt (recordOf t i j v (word z)) 0 ≡ z
     unfolding valueAt
-    value-back = let s = range-fits t v ok in ap signed (bytes-back (word v) (word-small v s)) ∙ word-back v s
+    value-back = let s = range-fits t z ok in ap signed (bytes-back (word z) (word-small z s)) ∙ word-back z s
 
-    ranged-back : ranged (recordOf t i j (word v)) 0 ≡ true
+    ranged-back : ranged (recordOf t i j v (word z)) 0 ≡ true
     unfolding ranged recordOf
     ranged-back = ap (inRange t) value-back ∙ ok
 
-  well-back : (m u x : ℕ) → t < u → 1 ≤ i → i + j ≤ m → wellFormed m u (recordOf t i j x) 0 ≡ true
+  well-back : (m u x : ℕ) → t < u → 1 ≤ i → i + j ≤ m → isLine v ≡ true → wellFormed m u v (recordOf t i j v x) 0 ≡ true
   unfolding wellFormed recordOf sparesZero
-  well-back m u x h y d = rw (lt-ltb t u h, inside-yes m i j y d)
+  well-back m u x h y d l = rw (lt-ltb t u h, inside-yes m i j y d, l, eq-eqb v v refl)
 
 -- ---- records one after the other: how long they are, and a fold over them
 
@@ -92,9 +92,9 @@ module _ {A : Type 0} (M : Monoid A) (G : List ℕ → ℕ → A) (here : Local 
   over-chained f c g h e (suc n) =
       over-append M G here (chained n f) (f n) (total n c) (length-chained f c h n) ∙ joined M (over-chained f c g h e n) (e n)
 
-  over-one : (t i j x : ℕ) → over M G (recordOf t i j x) ≡ G (recordOf t i j x) 0
+  over-one : (t i j v x : ℕ) → over M G (recordOf t i j v x) ≡ G (recordOf t i j v x) 0
   unfolding over fold recordOf bytes
-  over-one t i j x = M .left (G (recordOf t i j x) 0)
+  over-one t i j v x = M .left (G (recordOf t i j v x) 0)
 
 -- the cells of year k + 1, and of a triangle
 abbrev inYear : ℕ → ℕ → ℕ
@@ -110,23 +110,23 @@ counted = refl
 pub in-kind : (m : ℕ) → m ≤ 20 → 2 * inKind m ≡ m * (m + 1)
 in-kind m h = eqb-true _ _ (every-at (λ k. eqb (2 * inKind k) (k * (k + 1))) 21 m counted (omega arith))
 
-pub length-record : (t i j x : ℕ) → length (recordOf t i j x) ≡ 16
+pub length-record : (t i j v x : ℕ) → length (recordOf t i j v x) ≡ 16
 unfolding recordOf bytes
-length-record t i j x = refl
+length-record t i j v x = refl
 
-length-year : (m t : ℕ) (a : List ℤ) → Records (λ k. yearBytes t a (suc k) (m - k)) (inYear m)
+length-year : (m v t : ℕ) (a : List ℤ) → Records (λ k. yearBytes v t a (suc k) (m - k)) (inYear m)
 unfolding yearBytes
-length-year m t a k = length-chained (cellBytes t a (suc k)) (λ _. 1) (λ j. length-record t (suc k) j _) (m - k)
+length-year m v t a k = length-chained (cellBytes v t a (suc k)) (λ _. 1) (λ j. length-record t (suc k) j v _) (m - k)
 
 -- ---- the set that is written
 
-module _ (m : ℕ) (s : ℕ → List ℤ) where
+module _ (m v : ℕ) (s : ℕ → List ℤ) where
   abbrev pub kindsBytes : ℕ → List ℕ
-  kindsBytes u = chained u (λ t. kindBytes m t (s t))
+  kindsBytes u = chained u (λ t. kindBytes m v t (s t))
 
-  length-kind : Records (λ t. kindBytes m t (s t)) (λ _. inKind m)
+  length-kind : Records (λ t. kindBytes m v t (s t)) (λ _. inKind m)
   unfolding kindBytes
-  length-kind t = length-chained _ (inYear m) (length-year m t (s t)) m
+  length-kind t = length-chained _ (inYear m) (length-year m v t (s t)) m
 
   pub length-kinds : (u : ℕ) → length (kindsBytes u) ≡ 16 * total u (λ _. inKind m)
   length-kinds u = length-chained _ _ length-kind u
@@ -137,24 +137,24 @@ module _ (m : ℕ) (s : ℕ → List ℤ) where
 
     module _ {A : Type 0} (M : Monoid A) (G : List ℕ → ℕ → A) where
       abbrev piece : ℕ → ℕ → ℕ → A
-      piece t i j = G (cellBytes t (s t) i j) 0
+      piece t i j = G (cellBytes v t (s t) i j) 0
 
       over-set : Local G → over M G f ≡ fold M u (λ t. fold M m (λ k. fold M (m - k) (piece t (suc k))))
       unfolding yearBytes kindBytes
       over-set here =
           over-chained M G here _ _ _ length-kind
-          (λ t. over-chained M G here _ _ _ (length-year m t (s t))
-          (λ k. over-chained M G here _ (λ _. 1) _ (λ j. length-record t (suc k) j _) (λ j. over-one M G here t (suc k) j _) (m - k)) m) u
+          (λ t. over-chained M G here _ _ _ (length-year m v t (s t))
+          (λ k. over-chained M G here _ (λ _. 1) _ (λ j. length-record t (suc k) j v _) (λ j. over-one M G here t (suc k) j v _) (m - k)) m) u
 
     -- what holds of each record that is written holds of the file
-    all-hold : (P : List ℕ → ℕ → Bool) → Local P → ((t i j : ℕ) → t < u → 1 ≤ i → i + j ≤ m → P (cellBytes t (s t) i j) 0 ≡ true) → over alls P f ≡ true
+    all-hold : (P : List ℕ → ℕ → Bool) → Local P → ((t i j : ℕ) → t < u → 1 ≤ i → i + j ≤ m → P (cellBytes v t (s t) i j) 0 ≡ true) → over alls P f ≡ true
     all-hold P here h =
         over-set alls P here
         ∙ fold-unit alls u _ (λ t k. fold-unit alls m _ (λ y l. fold-unit alls (m - y) _ (λ j b. h t (suc y) j k (omega arith) (omega arith))))
 
-    pub third : every (records f) (wellFormed m u f) ≡ true
+    pub third : isLine v ≡ true → every (records f) (wellFormed m u v f) ≡ true
     unfolding over
-    third = every-fold _ _ ∙ all-hold (wellFormed m u) (wellFormed-local m u) (λ t i j k l b. well-back t i j m u _ k l b)
+    third y = every-fold _ _ ∙ all-hold (wellFormed m u v) (wellFormed-local m u v) (λ t i j k l b. well-back t i j v m u _ k l b y)
 
     -- W of the record of kind t and cell (i,j), of all the records that are written
     module _ {A : Type 0} (M : Monoid A) (W : List ℕ → ℕ → A) (here : Local W) (t i j : ℕ) where
@@ -169,7 +169,7 @@ module _ (m : ℕ) (s : ℕ → List ℤ) where
           absurd (n (eqb-true k t (and-left (eqb k t) (eqb y i) ki)) (eqb-true y i (and-right (eqb k t) (eqb y i) ki)) (eqb-true d j (and-right (eqb k t && eqb y i) (eqb d j) e))))
           (λ e. rw e)
 
-      this : piece M G t i j ≡ W (cellBytes t (s t) i j) 0
+      this : piece M G t i j ≡ W (cellBytes v t (s t) i j) 0
       unfolding ofCell isOf recordOf
       this = rw (eq-eqb t t refl, eq-eqb i i refl, eq-eqb j j refl)
 
@@ -177,7 +177,7 @@ module _ (m : ℕ) (s : ℕ → List ℤ) where
       local = ofCell-local (M .unit) W t i j here
 
       -- a cell of the set stands in one record
-      held : t < u → 1 ≤ i → i + j ≤ m → over M G f ≡ W (cellBytes t (s t) i j) 0
+      held : t < u → 1 ≤ i → i + j ≤ m → over M G f ≡ W (cellBytes v t (s t) i j) 0
       held k l b =
           let e : suc (i - 1) ≡ i = omega arith in
           over-set M G local
@@ -194,14 +194,14 @@ module _ (m : ℕ) (s : ℕ → List ℤ) where
     module _ (ok : (t i j : ℕ) → t < u → 1 ≤ i → i + j ≤ m → inRange t (cell (s t) i j) ≡ true) where
       value-held : (t i j : ℕ) → t < u → 1 ≤ i → i + j ≤ m → valueOf f t i j ≡ cell (s t) i j
       unfolding valueOf over ofCell
-      value-held t i j k l b = sum-fold _ _ ∙ held sums valueAt value-local t i j k l b ∙ value-back t i j (cell (s t) i j) (ok t i j k l b)
+      value-held t i j k l b = sum-fold _ _ ∙ held sums valueAt value-local t i j k l b ∙ value-back t i j v (cell (s t) i j) (ok t i j k l b)
 
       pub triangle-held : (t : ℕ) → t < u → triangle m (valueOf f t) ≡ triangle m (cell (s t))
       triangle-held t k = triangle-ext m (valueOf f t) (cell (s t)) (λ i j. value-held t i j k)
 
       pub fifth : q5 m f ≡ true
       unfolding q5 over ranged
-      fifth = every-fold _ _ ∙ all-hold ranged ranged-local (λ t i j k l b. ranged-back t i j (cell (s t) i j) (ok t i j k l b))
+      fifth = every-fold _ _ ∙ all-hold ranged ranged-local (λ t i j k l b. ranged-back t i j v (cell (s t) i j) (ok t i j k l b))
 
     pub triangle-none : (t : ℕ) → u ≤ t → triangle m (valueOf f t) ≡ replicate 400 (pos 0)
     unfolding valueOf over ofCell

@@ -18,10 +18,10 @@ fn to_word(v: i64) -> usize
     18446744073709551615 - (y as usize)
 }
 
-// The bytes of a record: its kind, its accident year and delay, and its value as a word.
-fn record_bytes(kind: usize, year: usize, delay: usize, x: usize) -> [u8; 16]
-    requires { ⌜ (kind < 3) × (year ≤ 20) × (delay < 20) ⌝ }
-    ensures { λ r. ⌜ r ≡ recordOf kind year delay x ⌝ }
+// The bytes of a record: its kind, its accident year, delay and line, and its value as a word.
+fn record_bytes(kind: usize, year: usize, delay: usize, line: usize, x: usize) -> [u8; 16]
+    requires { ⌜ (kind < 3) × (year ≤ 20) × (delay < 20) × (line ≤ 5) ⌝ }
+    ensures { λ r. ⌜ r ≡ recordOf kind year delay line x ⌝ }
 {
     let x1 = x / 256;
     let x2 = x1 / 256;
@@ -34,7 +34,7 @@ fn record_bytes(kind: usize, year: usize, delay: usize, x: usize) -> [u8; 16]
         kind as u8,
         year as u8,
         delay as u8,
-        0,
+        line as u8,
         0,
         0,
         0,
@@ -67,21 +67,22 @@ fn put(out: &mut [u8], a: usize, bytes: [u8; 16])
 fn put_year(
     out: &mut [u8],
     a: usize,
+    line: usize,
     kind: usize,
     cells: &[i64; 400],
     year: usize,
     n: usize,
 ) -> usize
-    requires { ⌜ (kind < 3) × (1 ≤ year) × (year ≤ 20) × (n ≤ 20) ⌝ }
-    requires { ⌜ a + length (yearBytes kind (now cells) year n) ≤ length (now out) ⌝ }
-    ensures { λ r. ⌜ r ≡ a + length (yearBytes kind (now (cells .entry)) year n) ⌝ }
-    ensures { λ _. ⌜ now (out .exit) ≡ overlay (now (out .entry)) a (yearBytes kind (now (cells .entry)) year n) ⌝ }
+    requires { ⌜ (line ≤ 5) × (kind < 3) × (1 ≤ year) × (year ≤ 20) × (n ≤ 20) ⌝ }
+    requires { ⌜ a + length (yearBytes line kind (now cells) year n) ≤ length (now out) ⌝ }
+    ensures { λ r. ⌜ r ≡ a + length (yearBytes line kind (now (cells .entry)) year n) ⌝ }
+    ensures { λ _. ⌜ now (out .exit) ≡ overlay (now (out .entry)) a (yearBytes line kind (now (cells .entry)) year n) ⌝ }
 {
     let mut next = a;
     let mut j = 0;
     while j < n {
         let v = cells[20 * (year - 1) + j];
-        put(out, next, record_bytes(kind, year, j, to_word(v)));
+        put(out, next, record_bytes(kind, year, j, line, to_word(v)));
         next += 16;
         j += 1;
     }
@@ -89,16 +90,23 @@ fn put_year(
 }
 
 // Writes the cells of a kind from index a on, and hands back the index after them.
-fn put_kind(out: &mut [u8], a: usize, m: usize, kind: usize, cells: &[i64; 400]) -> usize
-    requires { ⌜ (m ≤ 20) × (kind < 3) ⌝ }
-    requires { ⌜ a + length (kindBytes m kind (now cells)) ≤ length (now out) ⌝ }
-    ensures { λ r. ⌜ r ≡ a + length (kindBytes m kind (now (cells .entry))) ⌝ }
-    ensures { λ _. ⌜ now (out .exit) ≡ overlay (now (out .entry)) a (kindBytes m kind (now (cells .entry))) ⌝ }
+fn put_kind(
+    out: &mut [u8],
+    a: usize,
+    m: usize,
+    line: usize,
+    kind: usize,
+    cells: &[i64; 400],
+) -> usize
+    requires { ⌜ (m ≤ 20) × (line ≤ 5) × (kind < 3) ⌝ }
+    requires { ⌜ a + length (kindBytes m line kind (now cells)) ≤ length (now out) ⌝ }
+    ensures { λ r. ⌜ r ≡ a + length (kindBytes m line kind (now (cells .entry))) ⌝ }
+    ensures { λ _. ⌜ now (out .exit) ≡ overlay (now (out .entry)) a (kindBytes m line kind (now (cells .entry))) ⌝ }
 {
     let mut next = a;
     let mut k = 0;
     while k < m {
-        next = put_year(out, next, kind, cells, k + 1, m - k);
+        next = put_year(out, next, line, kind, cells, k + 1, m - k);
         k += 1;
     }
     next
@@ -107,19 +115,20 @@ fn put_kind(out: &mut [u8], a: usize, m: usize, kind: usize, cells: &[i64; 400])
 // Writes the set's file at the front of the output: by kind, then year, then delay.
 pub fn put_set<'a>(
     m: usize,
+    line: usize,
     has_incurred: bool,
     counts: &'a [i64; 400],
     paid: &'a [i64; 400],
     incurred: &'a [i64; 400],
     out: &mut [u8],
 )
-    requires { ⌜ m ≤ 20 ⌝ }
-    requires { ⌜ length (fileOf m (givenSet m «has_incurred» (now counts) (now paid) (now incurred))) ≤ length (now out) ⌝ }
-    ensures { λ _. ⌜ now (out .exit) ≡ overlay (now (out .entry)) 0 (fileOf m (givenSet m «has_incurred» (now (counts .entry)) (now (paid .entry)) (now (incurred .entry)))) ⌝ }
+    requires { ⌜ (m ≤ 20) × (line ≤ 5) ⌝ }
+    requires { ⌜ length (fileOf m (givenSet m line «has_incurred» (now counts) (now paid) (now incurred))) ≤ length (now out) ⌝ }
+    ensures { λ _. ⌜ now (out .exit) ≡ overlay (now (out .entry)) 0 (fileOf m (givenSet m line «has_incurred» (now (counts .entry)) (now (paid .entry)) (now (incurred .entry)))) ⌝ }
 {
-    let second = put_kind(out, 0, m, 0, counts);
-    let third = put_kind(out, second, m, 1, paid);
+    let second = put_kind(out, 0, m, line, 0, counts);
+    let third = put_kind(out, second, m, line, 1, paid);
     if has_incurred {
-        put_kind(out, third, m, 2, incurred);
+        put_kind(out, third, m, line, 2, incurred);
     }
 }

@@ -7,7 +7,7 @@ use mathlib.Core.List.{List, [], _∷_}
 use lib.IntN.{ℤ}
 use lib.ListN.{length}
 use Rattle.model.specs.Lists.{every}
-use Rattle.model.specs.Records.{records, setLength, hasIncurred, setOf}
+use Rattle.model.specs.Records.{lineOf, records, setLength, hasIncurred, setOf}
 use Rattle.model.specs.Questions.{q1, q2, q3, q4, q5, kinds, firstNo, ofRecords, ofFile}
 use Rattle.model.specs.Calls.{readRefusal}
 use Rattle.model.specs.Lengths.{size-so, length-yes, length-so}
@@ -43,28 +43,28 @@ module _ (m : ℕ) (f : List ℕ) (set : List ℤ) where
       all : n ≡ records f
       all = omega arith
 
-      third : every n (wellFormed m u f) ≡ q3 m f
+      third : every n (wellFormed m u (lineOf f) f) ≡ q3 m f
       third = rw all (sym (q3-formed m f))
 
-      once : every n (wellFormed m u f) ≡ true → every n (fresh f) ≡ q4 m f
+      once : every n (wellFormed m u (lineOf f) f) ≡ true → every n (fresh f) ≡ q4 m f
       unfolding q4
       once formed =
           let full = cell-keys m u ∙ full-number (hasIncurred m f) _ _ n (cells-of m (size-so m a .1)) sized in
-          fourth m u f n (size-so m a .1) formed full all
+          fourth m u (lineOf f) f n (size-so m a .1) formed full all
 
-      questions : readRefusal m f ≡ firstNo ((3, every n (wellFormed m u f)) ∷ (4, every n (fresh f)) ∷ (5, every n (ranged f)) ∷ [])
+      questions : readRefusal m f ≡ firstNo ((3, every n (wellFormed m u (lineOf f) f)) ∷ (4, every n (fresh f)) ∷ (5, every n (ranged f)) ∷ [])
       unfolding readRefusal firstNo ofFile ofRecords q5 ranged
       questions =
           rw (a, length-yes m f (size-so m a .0) (hasIncurred m f) (long ∙ sized) .0, ← third, ← all)
-          (by-test (every n (wellFormed m u f)) (λ y. rw (y, once y)) (λ y. rw y))
+          (by-test (every n (wellFormed m u (lineOf f) f)) (λ y. rw (y, once y)) (λ y. rw y))
 
-      pub read-so : (r : ℕ) → RecordsRead m u f n r set → ReadInto m f r set
+      pub read-so : (r : ℕ) → RecordsRead m u (lineOf f) f n r set → ReadInto m f r set
       unfolding firstNo setOf
       read-so r is =
           record {
             result = is .result ∙ sym questions;
-            holds = λ z. by-test (every n (wellFormed m u f))
-                (λ y. let triangle = triangle-key m u f n (size-so m a .1) y in
+            holds = λ z. by-test (every n (wellFormed m u (lineOf f) f))
+                (λ y. let triangle = triangle-key m u (lineOf f) f n (size-so m a .1) y in
                 rw (triangle 0 set (omega arith) all (is .values z), triangle 1 set (omega arith) all (is .values z), triangle 2 set (omega arith) all (is .values z)))
                 (λ y. let three : r ≡ 3 = is .result ∙ rw y in absurd (omega arith));
           }

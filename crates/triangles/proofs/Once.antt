@@ -13,7 +13,7 @@ use lib.IntN.{ℤ, pos}
 use Rattle.integers.specs.Sums.{sum-cong, sum-nothing}
 use Rattle.model.specs.Lists.{at, every, total, count}
 use Rattle.model.specs.ListsLaws.{every-at, every-all, and-left, and-right, tabulate-ext, total-ext, total-plus, total-tight}
-use Rattle.model.specs.Records.{inside, kindAt, yearAt, delayAt, sparesZero, records, isOf, copies, valueOf, triangle}
+use Rattle.model.specs.Records.{inside, kindAt, yearAt, delayAt, records, isOf, copies, valueOf, triangle}
 use Rattle.model.specs.RecordsLaws.{inside-yes, inside-so}
 use Rattle.model.specs.Questions.{eachCell}
 use Rattle.model.specs.Lent.{triangleIn}
@@ -59,12 +59,11 @@ key-parts a i j t p h l b =
     (λ e. let k = eqb-true (400 * a + (20 * (i - 1) + j)) (400 * t + p) e in
     rw (eq-eqb a t (omega arith), eq-eqb i (p / 20 + 1) (omega arith), eq-eqb j (p % 20) (omega arith)))
 
-module _ (m u : ℕ) (f : List ℕ) (n : ℕ) (small : m ≤ 20) (formed : every n (wellFormed m u f) ≡ true) where
+module _ (m u v : ℕ) (f : List ℕ) (n : ℕ) (small : m ≤ 20) (formed : every n (wellFormed m u v f) ≡ true) where
   so : (k : ℕ) → k < n → (kindAt f k < u) × (1 ≤ yearAt f k) × (yearAt f k + delayAt f k ≤ m)
   unfolding wellFormed
   so k l =
-      let yes = every-at (wellFormed m u f) n k formed l in
-      parts-so m u (kindAt f k) (yearAt f k) (delayAt f k) (and-left (ltb (kindAt f k) u && inside m (yearAt f k) (delayAt f k)) (sparesZero f k) yes)
+      parts-so m u (kindAt f k) (yearAt f k) (delayAt f k) (and-left _ _ (and-left _ _ (every-at (wellFormed m u v f) n k formed l)))
 
   key-small : (k : ℕ) → k < n → keyAt f k < 400 * u
   unfolding keyAt

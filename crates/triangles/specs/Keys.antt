@@ -26,8 +26,8 @@ keySum f n q = sum n (λ k. cond (eqb (keyAt f k) q) (valueAt f k) (pos 0))
 unfoldable pub fresh : List ℕ → ℕ → Bool
 fresh f k = eqb (keyCount f k (keyAt f k)) 0
 
--- questions 3 to 5 of the first n records, by their keys, and where each got a yes the value of
--- each key
-pub record RecordsRead (m u : ℕ) (f : List ℕ) (n r : ℕ) (set : List ℤ) : Type 0 where
-  pub result : r ≡ firstNo ((3, every n (wellFormed m u f)) ∷ (4, every n (fresh f)) ∷ (5, every n (ranged f)) ∷ [])
+-- questions 3 to 5 of the first n records, by their keys, where the length allows u kinds and the
+-- file's line is v; and where each got a yes the value of each key
+pub record RecordsRead (m u v : ℕ) (f : List ℕ) (n r : ℕ) (set : List ℤ) : Type 0 where
+  pub result : r ≡ firstNo ((3, every n (wellFormed m u v f)) ∷ (4, every n (fresh f)) ∷ (5, every n (ranged f)) ∷ [])
   pub values : r ≡ 0 → (q : ℕ) → q < 1200 → at set q ≡ keySum f n q

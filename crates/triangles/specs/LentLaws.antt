@@ -4,7 +4,7 @@ use mathlib.Core.List.{List}
 use Prim.Native.Nat.{ℕ, _≤_}
 use borrow.Author.Tests.{ne-eqb}
 use lib.IntN.{ℤ}
-use Rattle.model.specs.Records.{hasIncurred}
+use Rattle.model.specs.Records.{setOf}
 use Rattle.model.specs.Questions.{ofRecords, ofFile}
 use Rattle.model.specs.QuestionsLaws.{EachYes, numbered, each-yes}
 use Rattle.model.specs.Calls.{acceptedRead, refusedRead, readRefusal, readAnswer}
@@ -21,6 +21,6 @@ module _ (m : ℕ) (f : List ℕ) (n : ℕ) (set : List ℤ) (is : ReadInto m f 
     unfolding readRefusal ofFile ofRecords numbered
     read-size = let h : EachYes (ofFile m f) = each-yes (ofFile m f) refl (sym (is .result) ∙ z) in size-so m (h .0) .1
 
-    pub read-yes : acceptedRead (lentSet (hasIncurred m f) set) ≡ readAnswer m f
+    pub read-yes : acceptedRead (lentSet (setOf m f) set) ≡ readAnswer m f
     unfolding readAnswer
     read-yes = rw (is .holds z, ← is .result, z)

@@ -1,4 +1,4 @@
--- Laws of lists, the records of a file and their order, and the set that they hold.
+-- Laws of lists, the records of a file, their order and their line, and the set that they hold.
 pub mod Stores
 pub mod Folds
 pub mod OneRecord
@@ -8,4 +8,6 @@ pub mod Places
 pub mod Keys
 pub mod LentLaws
 pub mod ReadCells
+pub mod Lines
+pub mod CallsLines
 pub mod CallsOrder

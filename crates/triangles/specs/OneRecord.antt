@@ -1,16 +1,18 @@
 -- What is said of a record depends on its 16 bytes alone; a fold over the records of a file.
 -- Assumes nothing.
 use mathlib.Core.Path.{_≡_, refl, sym, _∙_, ap, ap₂}
-use mathlib.Core.Bool.{Bool, _&&_, cond}
+use mathlib.Core.Bool.{Bool, true, _&&_, cond}
 use mathlib.Core.List.{List}
 use Prim.Native.Nat.{ℕ, zero, suc, _+_, _*_, _^_, _<_}
 use native.Mathlib.Nat.{add-zero}
 use native.Mathlib.Omega.{arith}
-use lib.Dec.{ltb}
+use borrow.Author.Tests.{eqb-true}
+use lib.Dec.{ltb, eqb}
 use lib.ListN.{getD, take, drop}
 use lib.Seq.{getD-take, getD-drop}
-use Rattle.model.specs.Records.{inside, kindAt, yearAt, delayAt, sparesZero, leastFirst, signed, valueAt, records, isOf, hasIncurred, inRange}
+use Rattle.model.specs.Records.{inside, kindAt, yearAt, delayAt, lineAt, lineOf, sparesZero, leastFirst, signed, valueAt, records, isOf, hasIncurred, isLine, inRange}
 use Rattle.model.specs.Lists.{every}
+use Rattle.model.specs.ListsLaws.{and-left, and-right, every-at}
 use Rattle.model.specs.Questions.{q3, kinds, recordOk}
 use Rattle.triangles.specs.Folds.{Monoid, fold}
 
@@ -18,19 +20,19 @@ use Rattle.triangles.specs.Folds.{Monoid, fold}
 unfoldable pub recordAt : List ℕ → ℕ → List ℕ
 recordAt f k = take 16 (drop (16 * k) f)
 
--- r is the number of n bytes from place a on, the first two of which are bytes
+-- r is the number of n bytes from place a on
 pub record Number (n : ℕ) (f : List ℕ) (a r : ℕ) : Type 0 where
   pub is : r ≡ leastFirst n f a
   pub small : r < 256 ^ n
-  pub first : getD f a 0 < 256
-  pub second : getD f (a + 1) 0 < 256
+  pub byte : (i : ℕ) → i < n → getD f (a + i) 0 < 256
 
--- the first eight bytes of record k: its kind, its year, and as one number its delay and spare
--- bytes
-pub record HeadAt (f : List ℕ) (k : ℕ) (kind year delay : ℕ) : Type 0 where
+-- the first eight bytes of record k: its kind, its year, its delay, and as one number its line and
+-- spare bytes
+pub record HeadAt (f : List ℕ) (k : ℕ) (kind year delay line : ℕ) : Type 0 where
   pub kindIs : kind ≡ kindAt f k
   pub yearIs : (year ≡ yearAt f k) × (year < 256)
-  pub delayIs : (delay ≡ delayAt f k + 256 * leastFirst 5 f (16 * k + 3)) × (delay < 2 ^ 48)
+  pub delayIs : (delay ≡ delayAt f k) × (delay < 256)
+  pub lineIs : line ≡ lineAt f k + 256 * leastFirst 4 f (16 * k + 4)
 
 -- what G says of record k it says of the record alone
 abbrev pub Local : {A : Type 0} → (List ℕ → ℕ → A) → Type 0
@@ -60,10 +62,12 @@ module _ (f : List ℕ) (k : ℕ) where
   pub delay-local : delayAt f k ≡ delayAt (recordAt f k) 0
   delay-local = byte-local 2 (omega arith)
 
+  pub line-local : lineAt f k ≡ lineAt (recordAt f k) 0
+  line-local = byte-local 3 (omega arith)
+
   pub spares-local : sparesZero f k ≡ sparesZero (recordAt f k) 0
   unfolding sparesZero
-  spares-local =
-      rw (byte-local 3 (omega arith), byte-local 4 (omega arith), byte-local 5 (omega arith), byte-local 6 (omega arith), byte-local 7 (omega arith))
+  spares-local = rw (byte-local 4 (omega arith), byte-local 5 (omega arith), byte-local 6 (omega arith), byte-local 7 (omega arith))
 
   pub value-local : valueAt f k ≡ valueAt (recordAt f k) 0
   unfolding valueAt
@@ -73,17 +77,27 @@ module _ (f : List ℕ) (k : ℕ) where
   unfolding isOf
   isOf-local t i j = rw (kind-local, year-local, delay-local)
 
--- question 3 of record k, where the length allows u kinds
-unfoldable pub wellFormed : ℕ → ℕ → List ℕ → ℕ → Bool
-wellFormed m u f k = ltb (kindAt f k) u && inside m (yearAt f k) (delayAt f k) && sparesZero f k
+-- question 3 of record k, where the length allows u kinds and the file's line is v
+unfoldable pub wellFormed : ℕ → ℕ → ℕ → List ℕ → ℕ → Bool
+wellFormed m u v f k =
+    ltb (kindAt f k) u && inside m (yearAt f k) (delayAt f k) && (isLine (lineAt f k) && eqb (lineAt f k) v) && sparesZero f k
 
-pub wellFormed-local : (m u : ℕ) → Local (wellFormed m u)
+pub wellFormed-local : (m u v : ℕ) → Local (wellFormed m u v)
 unfolding wellFormed
-wellFormed-local m u f k = rw (kind-local f k, year-local f k, delay-local f k, spares-local f k)
+wellFormed-local m u v f k = rw (kind-local f k, year-local f k, delay-local f k, line-local f k, spares-local f k)
 
-pub q3-formed : (m : ℕ) (f : List ℕ) → q3 m f ≡ every (records f) (wellFormed m (kinds (hasIncurred m f)) f)
+pub q3-formed : (m : ℕ) (f : List ℕ) → q3 m f ≡ every (records f) (wellFormed m (kinds (hasIncurred m f)) (lineOf f) f)
 unfolding q3 recordOk wellFormed
 q3-formed m f = refl
+
+-- records that are well formed on a line have a first one on it
+pub line-so : (m u v : ℕ) (f : List ℕ) (n : ℕ) → 0 < n → every n (wellFormed m u v f) ≡ true → (isLine (lineOf f) ≡ true) × (lineOf f ≡ v)
+unfolding wellFormed
+line-so m u v f n l h =
+    let here = ltb (kindAt f 0) u && inside m (yearAt f 0) (delayAt f 0) in
+    let on = isLine (lineOf f) && eqb (lineOf f) v in
+    let y = and-right here on (and-left (here && on) (sparesZero f 0) (every-at (wellFormed m u v f) n 0 h l)) in
+    (and-left (isLine (lineOf f)) (eqb (lineOf f) v) y, eqb-true (lineOf f) v (and-right (isLine (lineOf f)) (eqb (lineOf f) v) y))
 
 -- question 5 of record k
 unfoldable pub ranged : List ℕ → ℕ → Bool

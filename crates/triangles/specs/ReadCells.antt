@@ -1,6 +1,6 @@
--- A file that the reader accepts: each value of its set is in range, since each cell is the value
--- of its one record. Assumes nothing.
-use mathlib.Core.Path.{_≡_, refl, subst}
+-- A file that the reader accepts: the writer takes its set. Each value is in range, since each cell
+-- is the value of its one record. Assumes nothing.
+use mathlib.Core.Path.{_≡_, refl, sym, _∙_, subst}
 use mathlib.Core.Bool.{Bool, true, cond}
 use mathlib.Core.List.{List}
 use Prim.Native.Nat.{ℕ, zero, suc, _+_, _≤_, _<_}
@@ -11,13 +11,15 @@ use lib.IntN.{ℤ, pos, +ℤ-idl, +ℤ-idr}
 use Rattle.integers.specs.Sums.{sum}
 use Rattle.model.specs.Lists.{total, count}
 use Rattle.model.specs.ListsLaws.{every-at, and-left}
-use Rattle.model.specs.Records.{cell, kindAt, valueAt, records, isOf, copies, valueOf, hasIncurred, triangle, setOf, inRange}
+use Rattle.model.specs.Records.{cell, kindAt, lineOf, valueAt, records, isOf, copies, valueOf, hasIncurred, triangle, setOf, isLine, inRange}
 use Rattle.model.specs.RecordsLaws.{cell-triangle}
-use Rattle.model.specs.Questions.{q1, q4, q5, q5Writer, kinds, eachCell, ofFile, ofRecords}
+use Rattle.model.specs.Questions.{q1, q2, q3, q4, q5, q5Writer, kinds, eachCell, ofFile, ofRecords}
 use Rattle.model.specs.QuestionsLaws.{EachYes, numbered, each-yes, eachCell-at, eachCell-all}
 use Rattle.model.specs.Calls.{readRefusal}
-use Rattle.model.specs.Lengths.{size-so}
+use Rattle.model.specs.Lengths.{size-so, length-so, set-least}
 use Rattle.model.specs.Tests.{by-test}
+use Rattle.model.specs.declared.TriangleSet.{TriangleSet}
+use Rattle.triangles.specs.OneRecord.{q3-formed, line-so}
 
 -- ---- a sum over the numbers that p says yes to
 module _ (p : ℕ → Bool) (v : ℕ → ℤ) where
@@ -60,13 +62,32 @@ module _ (m : ℕ) (f : List ℕ) (few : m ≤ 20) (once : q4 m f ≡ true) (val
       some-kinds : (t : ℕ) → t < 2 → t < cond (hasIncurred m f) 3 2
       some-kinds t h = by-test (hasIncurred m f) (λ e. rw e (omega arith)) (λ e. rw e h)
 
--- the set of a file that the reader accepts passes the writer's questions 1 and 5
+-- a set that passes the writer's questions 1, 3 and 5
+pub record Writable (m : ℕ) (s : TriangleSet) : Type 0 where
+  pub size : q1 m ≡ true
+  pub line : isLine (s .line) ≡ true
+  pub values : q5Writer m (s .«has_incurred») (s .counts) (s .paid) (s .incurred) ≡ true
+
+-- a file that the reader accepts has records, and such a set
 module _ (m : ℕ) (f : List ℕ) (accepted : readRefusal m f ≡ 0) where
-  pub writable : (q1 m ≡ true) × (let s = setOf m f in q5Writer m (s .«has_incurred») (s .counts) (s .paid) (s .incurred) ≡ true)
+  pub read-some : 0 < records f
+  unfolding readRefusal ofFile ofRecords numbered
+  read-some =
+      let h : EachYes (ofFile m f) = each-yes (ofFile m f) refl accepted in
+      let size : q1 m ≡ true = search in
+      let long : q2 m f ≡ true = search in
+      omega (arith, length-so m f long, set-least m (hasIncurred m f) (size-so m size .0))
+
+  pub writable : Writable m (setOf m f)
   unfolding readRefusal ofFile ofRecords numbered setOf
   writable =
       let h : EachYes (ofFile m f) = each-yes (ofFile m f) refl accepted in
       let size : q1 m ≡ true = search in
+      let formed : q3 m f ≡ true = search in
       let once : q4 m f ≡ true = search in
       let ranged : q5 m f ≡ true = search in
-      (size, set-in m f (size-so m size .1) once ranged)
+      record {
+        size = size;
+        line = line-so m (kinds (hasIncurred m f)) (lineOf f) f (records f) read-some (sym (q3-formed m f) ∙ formed) .0;
+        values = set-in m f (size-so m size .1) once ranged;
+      }

@@ -22,13 +22,21 @@ fn first_no(once: bool, ranged: bool) -> u64
     0
 }
 
-// Questions 3 to 5 of the first n records, and the values, each at its key. Question 4 is that no
-// key stands twice: as the file is as long as a set, each cell then stands there once.
-pub fn read_records(file: &[u8], m: usize, kinds: usize, n: usize, set: &mut [i64; 1200]) -> u64
+// Questions 3 to 5 of the first n records, all of one line, and the values, each at its key.
+// Question 4 is that no key stands twice: as the file is as long as a set, each cell then stands
+// there once.
+pub fn read_records(
+    file: &[u8],
+    m: usize,
+    kinds: usize,
+    line: usize,
+    n: usize,
+    set: &mut [i64; 1200],
+) -> u64
     requires { ⌜ (m ≤ 20) × (kinds ≤ 3) ⌝ }
     requires { ⌜ 16 * n ≤ length (now file) ⌝ }
     requires { ⌜ now set ≡ replicate 1200 (pos 0) ⌝ }
-    ensures { λ r. ⌜ RecordsRead m kinds (now (file .entry)) n r (now (set .exit)) ⌝ }
+    ensures { λ r. ⌜ RecordsRead m kinds line (now (file .entry)) n r (now (set .exit)) ⌝ }
 {
     let mut seen = [0u8; 1200];
     let mut once = true;
@@ -36,7 +44,7 @@ pub fn read_records(file: &[u8], m: usize, kinds: usize, n: usize, set: &mut [i6
     let mut k = 0;
     while k < n {
         let h = fields::head(file, k);
-        if !questions::record_ok(h, m, kinds) {
+        if !questions::record_ok(h, m, kinds, line) {
             return 3;
         }
         let q = fields::key(h);

@@ -35,23 +35,25 @@ fn eight(file: &[u8], at: usize) -> usize
     four(file, at) + 4294967296 * four(file, at + 4)
 }
 
-// The first eight bytes of a record: its kind, its accident year and, as one number with the spare
-// bytes, its delay.
+// The first eight bytes of a record: its kind, its accident year, its delay and, as one number with
+// the spare bytes, its line of cover.
 pub struct RecordHead {
     pub kind: usize,
     pub year: usize,
     pub delay: usize,
+    pub line: usize,
 }
 
 pub fn head(file: &[u8], k: usize) -> RecordHead
     requires { ⌜ 16 * k + 16 ≤ length (now file) ⌝ }
-    ensures { λ r. ⌜ HeadAt (now (file .entry)) k (r .kind) (r .year) (r .delay) ⌝ }
+    ensures { λ r. ⌜ HeadAt (now (file .entry)) k (r .kind) (r .year) (r .delay) (r .line) ⌝ }
 {
     let w = eight(file, 16 * k);
     RecordHead {
         kind: w % 256,
         year: w / 256 % 256,
-        delay: w / 65536,
+        delay: w / 65536 % 256,
+        line: w / 16777216,
     }
 }
 

@@ -7,8 +7,8 @@ ghost use mathlib.Core.Path.{_≡_};
 ghost use Prim.Native.Nat.{_≤_, _<_};
 ghost use lib.IntN.{pos};
 ghost use lib.ListN.{replicate};
-ghost use Rattle.model.specs.Records.{hasIncurred};
-ghost use Rattle.model.specs.Calls.{refusedRead, readAnswer};
+ghost use Rattle.model.specs.Records.{lineOf, hasIncurred};
+ghost use Rattle.model.specs.Calls.{ifAccepted, refusedRead, readAnswer};
 ghost use Rattle.model.specs.Lent.{triangleIn, ReadInto};
 
 // A refusal, with zeros beside it.
@@ -19,6 +19,7 @@ fn refused(number: u64) -> model::ReadAnswer
     model::ReadAnswer {
         refusal: number,
         set: model::TriangleSet {
+            line: 0,
             has_incurred: false,
             counts: none,
             paid: none,
@@ -35,6 +36,26 @@ pub fn has_incurred(file: &[u8], m: usize) -> bool
     file.len() == 16 * questions::set_records(m, true)
 }
 
+// The line of cover of a file: that of its first record, 0 where there is none.
+pub fn line(file: &[u8]) -> u64
+    ensures { λ r. ⌜ r ≡ lineOf (now (file .entry)) ⌝ }
+{
+    if file.len() < 4 {
+        return 0;
+    }
+    fields::byte(file, 3) as u64
+}
+
+// Stores the line of a file beside its refusal number, where that is 0.
+pub fn store_line(file: &[u8], number: u64, out: &mut u64)
+    ensures { λ _. ⌜ now (out .exit) ≡ ifAccepted number (lineOf (now (file .entry))) (now (out .entry)) ⌝ }
+{
+    if number != 0 {
+        return;
+    }
+    *out = line(file);
+}
+
 // Questions 1 to 5 of a file and, where it is accepted, its set in the lent list, which comes as
 // zeros.
 pub fn read_cells(file: &[u8], m: usize, set: &mut [i64; 1200]) -> u64
@@ -45,7 +66,8 @@ pub fn read_cells(file: &[u8], m: usize, set: &mut [i64; 1200]) -> u64
         let incurred = has_incurred(file, m);
         let n = questions::set_records(m, incurred);
         if file.len() == 16 * n {
-            return cells::read_records(file, m, questions::kinds(incurred), n, set);
+            let kinds = questions::kinds(incurred);
+            return cells::read_records(file, m, kinds, line(file) as usize, n, set);
         }
         return 2;
     }
@@ -85,6 +107,7 @@ pub fn read_set(file: &[u8], m: usize) -> model::ReadAnswer
     model::ReadAnswer {
         refusal: 0,
         set: model::TriangleSet {
+            line: line(file),
             has_incurred: has_incurred(file, m),
             counts,
             paid,

@@ -5,7 +5,7 @@ ghost use mathlib.Core.Bool.{_&&_, cond};
 ghost use Prim.Native.Nat.{_-_, _*_, _^_, _≤_, _<_};
 ghost use lib.Dec.{ltb, eqb};
 ghost use lib.IntN.{pos, negsuc};
-ghost use Rattle.model.specs.Records.{inside, inRange, setLength};
+ghost use Rattle.model.specs.Records.{inside, isLine, inRange, setLength};
 ghost use Rattle.model.specs.Questions.{q1, kinds};
 
 // Question 1.
@@ -36,13 +36,13 @@ pub fn set_records(m: usize, has_incurred: bool) -> usize
     kinds(has_incurred) * (m * (m + 1) / 2)
 }
 
-// Question 3 of one record, where there are `kinds` kinds: a spare byte that is not zero makes the
-// delay 256 or more.
-pub fn record_ok(h: fields::RecordHead, m: usize, kinds: usize) -> bool
-    requires { ⌜ (h .year < 256) × (h .delay < 2 ^ 48) ⌝ }
-    ensures { λ r. ⌜ r ≡ (ltb (h .kind) kinds && inside m (h .year) (h .delay)) ⌝ }
+// Question 3 of one record, where there are `kinds` kinds and the file's line is `line`: a spare
+// byte that is not zero makes the record's line 256 or more.
+pub fn record_ok(h: fields::RecordHead, m: usize, kinds: usize, line: usize) -> bool
+    requires { ⌜ (h .year < 256) × (h .delay < 256) ⌝ }
+    ensures { λ r. ⌜ r ≡ (ltb (h .kind) kinds && inside m (h .year) (h .delay) && (isLine line && eqb (h .line) line)) ⌝ }
 {
-    (h.kind < kinds) & ((1 <= h.year) & (h.year + h.delay <= m))
+    (h.kind < kinds) & ((1 <= h.year) & (h.year + h.delay <= m)) & ((line <= 5) & (h.line == line))
 }
 
 // The bounds of question 5, by kind.

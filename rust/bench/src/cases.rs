@@ -87,7 +87,7 @@ fn case(
 }
 
 fn read(file: &'static [u8], m: usize) -> Case {
-    let mut has_incurred = false;
+    let (mut line, mut has_incurred) = (0, false);
     let [mut counts, mut paid, mut incurred] = [[0; 400]; 3];
     let mut set = Set::zero();
     case(
@@ -97,6 +97,7 @@ fn read(file: &'static [u8], m: usize) -> Case {
             black_box(calls::read_set(
                 black_box(file),
                 m,
+                &mut line,
                 &mut has_incurred,
                 &mut counts,
                 &mut paid,
@@ -122,12 +123,14 @@ fn write(file: &'static [u8], m: usize) -> Case {
         m,
         move || {
             let Set {
+                line,
                 has_incurred,
                 triangles: [counts, paid, incurred],
                 ..
             } = black_box(set);
             black_box(calls::write_set(
                 m,
+                *line,
                 *has_incurred,
                 counts,
                 paid,
@@ -145,14 +148,14 @@ fn write(file: &'static [u8], m: usize) -> Case {
 }
 
 fn shares(file: &'static [u8], m: usize) -> Case {
-    let [mut b, mut n, mut q, mut g, mut u] = [[0; 20]; 5];
+    let (mut line, [mut b, mut n, mut q, mut g, mut u]) = (0, [[0; 20]; 5]);
     case(
         "shares",
         m,
         move || {
             let file = black_box(file);
             black_box(calls::shares(
-                file, m, &mut b, &mut n, &mut q, &mut g, &mut u,
+                file, m, &mut line, &mut b, &mut n, &mut q, &mut g, &mut u,
             ));
         },
         move || {
@@ -165,12 +168,12 @@ fn shares(file: &'static [u8], m: usize) -> Case {
 }
 
 fn delays(file: &'static [u8], m: usize) -> Case {
-    let mut p = [0; 20];
+    let (mut line, mut p) = (0, [0; 20]);
     case(
         "delays",
         m,
         move || {
-            black_box(calls::delays(black_box(file), m, &mut p));
+            black_box(calls::delays(black_box(file), m, &mut line, &mut p));
         },
         move || {
             black_box(plain::delays(black_box(file), m)).ok();
@@ -183,18 +186,18 @@ fn delays(file: &'static [u8], m: usize) -> Case {
 
 /// The delays of an accepted file, which stay in memory as it does.
 fn solved(file: &[u8], m: usize) -> &'static [i64] {
-    let p = plain::delays(file, m).expect("an accepted file");
-    p[..m].to_vec().leak()
+    let found = plain::delays(file, m).expect("an accepted file");
+    found.p[..m].to_vec().leak()
 }
 
 fn check_delays(file: &'static [u8], m: usize) -> Case {
-    let delays = solved(file, m);
+    let (mut line, delays) = (0, solved(file, m));
     case(
         "check delays",
         m,
         move || {
             let (file, delays) = black_box((file, delays));
-            black_box(calls::check_delays(file, m, delays));
+            black_box(calls::check_delays(file, m, delays, &mut line));
         },
         move || {
             let (file, delays) = black_box((file, delays));
@@ -209,7 +212,7 @@ fn check_delays(file: &'static [u8], m: usize) -> Case {
 
 fn forecast(file: &'static [u8], m: usize, method: u64, basis: u64) -> Case {
     let [mut out, mut plain_out, mut expert_out] = [[0; 1_560]; 3];
-    let mut leftovers = [0; 20];
+    let (mut line, mut leftovers) = (0, [0; 20]);
     case(
         format!("forecast {method} {basis}"),
         m,
@@ -220,6 +223,7 @@ fn forecast(file: &'static [u8], m: usize, method: u64, basis: u64) -> Case {
                 m,
                 method,
                 basis,
+                &mut line,
                 &mut out,
                 &mut leftovers,
             ));
@@ -237,7 +241,7 @@ fn forecast(file: &'static [u8], m: usize, method: u64, basis: u64) -> Case {
 
 fn forecast_with_delays(file: &'static [u8], m: usize) -> Case {
     let [mut out, mut plain_out, mut expert_out] = [[0; 1_560]; 3];
-    let (mut leftovers, delays) = ([0; 20], solved(file, m));
+    let (mut line, mut leftovers, delays) = (0, [0; 20], solved(file, m));
     case(
         "forecast with delays 0 1",
         m,
@@ -249,6 +253,7 @@ fn forecast_with_delays(file: &'static [u8], m: usize) -> Case {
                 0,
                 1,
                 delays,
+                &mut line,
                 &mut out,
                 &mut leftovers,
             ));
@@ -267,7 +272,8 @@ fn forecast_with_delays(file: &'static [u8], m: usize) -> Case {
 }
 
 fn claim_costs(file: &'static [u8], m: usize) -> Case {
-    let (mut mu, mut kinds, [mut factors, mut ratios]) = (0.0, [0; 20], [[0.0; 20]; 2]);
+    let (mut line, mut mu) = (0, 0.0);
+    let (mut kinds, [mut factors, mut ratios]) = ([0; 20], [[0.0; 20]; 2]);
     case(
         "claim costs",
         m,
@@ -276,6 +282,7 @@ fn claim_costs(file: &'static [u8], m: usize) -> Case {
             black_box(calls::claim_costs(
                 file,
                 m,
+                &mut line,
                 &mut mu,
                 &mut factors,
                 &mut kinds,
@@ -330,13 +337,21 @@ fn closing_page(file: &'static [u8], m: usize) -> Case {
 
 fn cash_in_window(file: &'static [u8], m: usize) -> Case {
     const DATES: [plain::Date; 3] = [[2023, 12, 31], [2024, 10, 1], [2025, 7, 1]];
-    let mut amount = 0;
+    let (mut line, mut amount) = (0, 0);
     case(
         "cash in window 0 1",
         m,
         move || {
             let (file, dates) = black_box((file, &DATES));
-            black_box(calls::cash_in_window(file, m, 0, 1, dates, &mut amount));
+            black_box(calls::cash_in_window(
+                file,
+                m,
+                0,
+                1,
+                dates,
+                &mut line,
+                &mut amount,
+            ));
         },
         move || {
             let (file, dates) = black_box((file, &DATES));
@@ -368,12 +383,13 @@ fn replay(m: usize) -> Case {
 }
 
 fn back_test(file: &'static [u8], m: usize, cut: usize) -> Case {
-    let (mut sums, c) = ([0; 4], cut as u64);
+    let (mut line, mut sums, c) = (0, [0; 4], cut as u64);
     case(
         format!("back-test 0 1, c = {cut}"),
         m,
         move || {
-            black_box(calls::back_test(black_box(file), m, 0, 1, cut, &mut sums));
+            let file = black_box(file);
+            black_box(calls::back_test(file, m, 0, 1, cut, &mut line, &mut sums));
         },
         move || {
             black_box(plain::back_test(black_box(file), m, c, 0, 1)).ok();

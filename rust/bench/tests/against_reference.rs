@@ -1,21 +1,25 @@
 //! The peers against the independent calculation.
 
-use bench::plain::{BackTest, ClaimCosts, Date, Inflation, JournalTally, Set, Shares};
+use bench::plain::{BackTest, Cash, ClaimCosts, Date, Delays, Forecast, Inflation, JournalTally};
+use bench::plain::{Set, Shares};
 use bench::{expert, plain};
 use reference::cash::forecast_years;
+use reference::examples::{set_k, set_k_without_incurred};
 use reference::forecast::set_to_forecast;
-use reference::generate::{case, closing_input, journal_case, windows, writer_case, Case};
+use reference::generate::{case, closing_input, file, journal_case, put_on_line, windows};
+use reference::generate::{writer_case, Case};
 use reference::given_delays::Estimated;
+use std::collections::BTreeSet;
 use std::sync::OnceLock;
 
 const CASES: u64 = 3_000;
 
 type Answer<T> = Result<T, u64>;
-type Forecast = fn(&[u8], usize, u64, u64, &mut [i64]) -> Answer<[i64; 20]>;
-type CheckDelays = fn(&[u8], usize, &[i64]) -> Answer<()>;
-type ForecastWithDelays = fn(&[u8], usize, u64, u64, &[i64], &mut [i64]) -> Answer<[i64; 20]>;
+type FileForecast = fn(&[u8], usize, u64, u64, &mut [i64]) -> Answer<Forecast>;
+type CheckDelays = fn(&[u8], usize, &[i64]) -> Answer<u64>;
+type ForecastWithDelays = fn(&[u8], usize, u64, u64, &[i64], &mut [i64]) -> Answer<Forecast>;
 type ClosingPage = fn(&[u8], usize, u64, u64, &mut [u8]) -> Answer<()>;
-type CashInWindow = fn(&[u8], usize, u64, u64, &[Date; 3]) -> Answer<i64>;
+type CashInWindow = fn(&[u8], usize, u64, u64, &[Date; 3]) -> Answer<Cash>;
 
 /// The calls of a peer.
 struct Peer {
@@ -23,9 +27,9 @@ struct Peer {
     read_set: fn(&[u8], usize) -> Answer<Set>,
     write_set: fn(&Set, &mut [u8]) -> Answer<()>,
     shares: fn(&[u8], usize) -> Answer<Shares>,
-    delays: fn(&[u8], usize) -> Answer<[i64; 20]>,
+    delays: fn(&[u8], usize) -> Answer<Delays>,
     check_delays: CheckDelays,
-    forecast: Forecast,
+    forecast: FileForecast,
     forecast_with_delays: ForecastWithDelays,
     claim_costs: fn(&[u8], usize) -> Answer<ClaimCosts>,
     back_test: fn(&[u8], usize, u64, u64, u64) -> Answer<BackTest>,
@@ -56,6 +60,7 @@ const PEERS: [Peer; 2] = [
         name: "expert",
         read_set: |file, m| {
             let mut set = Set {
+                line: 7,
                 triangles: [[7; 400]; 3],
                 ..Set::zero()
             };
@@ -87,15 +92,53 @@ fn each_case(compare: impl Fn(u64, &Case, &Peer, &str)) {
     }
 }
 
+/// The reader's answer to a file, which is the one that is wanted; says its line.
+fn same_set(file: &[u8], m: u64, peer: &Peer, text: &str) -> Answer<u64> {
+    let found = (peer.read_set)(file, m as usize);
+    let found = found.map(|set| (set.line, set.has_incurred, set.triangles));
+    let wanted = reference::read_set(file, m);
+    let wanted = wanted.map(|set| {
+        let triangles = [set.counts, set.paid, set.incurred];
+        (set.line, set.has_incurred, triangles)
+    });
+    assert_eq!(found, wanted, "{text}");
+    wanted.map(|(line, ..)| line)
+}
+
 #[test]
 fn reader() {
     each_case(|_, case, peer, text| {
-        let found = (peer.read_set)(&case.file, case.m as usize);
-        let found = found.map(|set| (set.has_incurred, set.triangles));
-        let wanted = reference::read_set(&case.file, case.m);
-        let wanted = wanted.map(|set| (set.has_incurred, [set.counts, set.paid, set.incurred]));
-        assert_eq!(found, wanted, "{text}");
+        same_set(&case.file, case.m, peer, text).ok();
     });
+}
+
+/// All records on any line, and one byte of one record, the line or a spare one, changed.
+#[test]
+fn lines() {
+    let mut answers = BTreeSet::new();
+    let mut ask = |file: &[u8], text: &str| {
+        for peer in &PEERS {
+            answers.insert(same_set(file, 2, peer, &format!("{}, {text}", peer.name)));
+        }
+    };
+    for mut file in [file(&set_k()), file(&set_k_without_incurred())] {
+        for line in 0..=255 {
+            put_on_line(&mut file, line);
+            ask(&file, &format!("line {line}"));
+        }
+        for line in 0..=6 {
+            put_on_line(&mut file, line);
+            for at in (0..file.len()).filter(|at| (3..8).contains(&(at % 16))) {
+                for value in [0, 1, 2, 3, 4, 5, 6, 128, 255] {
+                    let mut changed = file.clone();
+                    changed[at] = value;
+                    ask(&changed, &format!("{value} at {at} of line {line}"));
+                }
+            }
+        }
+    }
+    let answers: Vec<Answer<u64>> = answers.into_iter().collect();
+    assert_eq!(answers, [Ok(0), Ok(1), Ok(2), Ok(3), Ok(4), Ok(5), Err(3)]);
 }
 
 #[test]
@@ -104,13 +147,15 @@ fn writer() {
         let case = writer_case(seed);
         let set = Set {
             m: case.m as usize,
+            line: case.line,
             has_incurred: case.has_incurred,
             triangles: [case.counts, case.paid, case.incurred],
         };
         let [counts, paid, incurred] = &set.triangles;
         let mut wanted = vec![7; case.out_len];
-        let (m, has_incurred) = (case.m, case.has_incurred);
-        let answer = reference::write_set(m, has_incurred, counts, paid, incurred, &mut wanted);
+        let (m, line, has_incurred) = (case.m, case.line, case.has_incurred);
+        let out = &mut wanted;
+        let answer = reference::write_set(m, line, has_incurred, counts, paid, incurred, out);
         for peer in &PEERS {
             let mut out = vec![7; case.out_len];
             let found = (peer.write_set)(&set, &mut out);
@@ -127,20 +172,30 @@ fn writer() {
 #[test]
 fn shares_and_delays() {
     each_case(|_, case, peer, text| {
-        let found = (peer.shares)(&case.file, case.m as usize)
-            .map(|found| [found.b, found.n, found.q, found.g, found.u]);
-        let wanted = reference::shares(&case.file, case.m)
-            .map(|found| [found.b, found.n, found.q, found.g, found.u]);
+        let found = (peer.shares)(&case.file, case.m as usize);
+        let wanted = reference::shares(&case.file, case.m).map(|wanted| Shares {
+            line: wanted.line,
+            b: wanted.b,
+            n: wanted.n,
+            q: wanted.q,
+            g: wanted.g,
+            u: wanted.u,
+        });
         assert_eq!(found, wanted, "{text}");
         let found = (peer.delays)(&case.file, case.m as usize);
-        assert_eq!(found, reference::delays(&case.file, case.m), "{text}");
+        let wanted = reference::delays(&case.file, case.m).map(|wanted| Delays {
+            line: wanted.line,
+            p: wanted.p,
+        });
+        assert_eq!(found, wanted, "{text}");
     });
 }
 
-/// The entries at the front of an output that held 7, and the leftovers, are those that are wanted.
+/// The entries at the front of an output that held 7, the line and the leftovers are those that are
+/// wanted.
 fn same_forecast(
     out: &[i64],
-    found: Answer<[i64; 20]>,
+    found: Answer<Forecast>,
     wanted: Answer<reference::Forecast>,
     text: &str,
 ) {
@@ -150,7 +205,11 @@ fn same_forecast(
         out[entries.len()..].iter().all(|&entry| entry == 7),
         "{text}"
     );
-    assert_eq!(found, wanted.map(|wanted| wanted.leftovers), "{text}");
+    let wanted = wanted.map(|wanted| Forecast {
+        line: wanted.line,
+        leftovers: wanted.leftovers,
+    });
+    assert_eq!(found, wanted, "{text}");
 }
 
 #[test]
@@ -174,7 +233,7 @@ fn given_delays() {
         for (given, delays) in reference::generate::given_delays(seed, file, m) {
             let text = format!("{text}, {given:?}: {delays:?}");
             let wanted = match &checked {
-                Ok(of) => of.given(&delays).map(|_| ()),
+                Ok(of) => of.given(&delays).map(|_| of.set.line),
                 Err(refusal) => Err(*refusal),
             };
             let found = (peer.check_delays)(file, m as usize, &delays);
@@ -196,6 +255,7 @@ fn claim_costs() {
     each_case(|_, case, peer, text| {
         let found = (peer.claim_costs)(&case.file, case.m as usize);
         let wanted = reference::claim_costs(&case.file, case.m).map(|wanted| ClaimCosts {
+            line: wanted.line,
             mu: wanted.mu,
             factors: wanted.factors,
             inflations: wanted.inflations.map(|inflation| match inflation {
@@ -215,6 +275,7 @@ fn back_test() {
         let found = (peer.back_test)(&case.file, m as usize, case.cut, method, basis);
         let wanted = reference::back_test(&case.file, m, case.cut, method, basis);
         let wanted = wanted.map(|wanted| BackTest {
+            line: wanted.line,
             cells: wanted.cells,
             cellwise: wanted.cellwise,
             yearwise: wanted.yearwise,
@@ -265,7 +326,10 @@ fn cash_in_window() {
             let dates = window.dates().map(|date| [date.year, date.month, date.day]);
             let found = (peer.cash_in_window)(&case.file, m as usize, method, basis, &dates);
             let wanted = match &years {
-                Ok(years) => years.cash(&window),
+                Ok(years) => years.cash(&window).map(|amount| Cash {
+                    line: years.line,
+                    amount,
+                }),
                 Err(refusal) => Err(*refusal),
             };
             assert_eq!(found, wanted, "{text}, {}: {window:?}", span.name());

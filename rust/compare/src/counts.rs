@@ -6,7 +6,8 @@ use std::collections::BTreeMap;
 
 #[derive(Default)]
 pub struct Counts {
-    /// How many cases each call accepted; of the answers to inputs, how many were each of the
+    /// How many cases each call accepted; of accepted files, how many were on each line; of the
+    /// writer, how many cases met each refusal; of the answers to inputs, how many were each of the
     /// texts; of closing pages, how many cases each method and basis accepted and each refusal met;
     /// of windows, how many of each span were accepted and each refusal met; of given delays, how
     /// many cases accepted some of each kind and met each refusal; of journals, how many were made

@@ -2,13 +2,13 @@
 //! every call on the file.
 
 use crate::difference::{same, Difference};
-use crate::{files, respond, Counts};
+use crate::every_call;
 use pardesul::calls;
 use reference::examples::{Answer, Call, Example, EDGES, EXAMPLES};
 use reference::forecast::entry_count;
 use reference::generate::{file, Case};
 use reference::page::page_length;
-use reference::{BackTest, Forecast, Shares};
+use reference::{BackTest, Delays, Forecast, Shares};
 
 /// Compares every example, and says how many there are.
 pub fn examples() -> Result<usize, Difference> {
@@ -22,7 +22,7 @@ pub fn examples() -> Result<usize, Difference> {
             Call::BackTest { method, basis, cut } => (method, basis, cut),
             _ => (0, 1, 1),
         };
-        in_lent_memory(seed, case(m, file, method, basis, cut))?;
+        every_call(seed, &case(m, file, method, basis, cut))?;
     }
     Ok(EXAMPLES.len())
 }
@@ -33,13 +33,21 @@ pub fn edges() -> Result<usize, Difference> {
         let set = edge.rows.set();
         for (method, refused) in (0..).zip(edge.refused) {
             let text = || format!("method {method}, edge {seed}");
-            let (mut out, mut leftovers) = (vec![0; entry_count(set.m)], [0; 20]);
-            let refusal = calls::forecast(&file(&set), set.m, method, 0, &mut out, &mut leftovers);
+            let (mut line, mut out, mut leftovers) = (0, vec![0; entry_count(set.m)], [0; 20]);
+            let refusal = calls::forecast(
+                &file(&set),
+                set.m,
+                method,
+                0,
+                &mut line,
+                &mut out,
+                &mut leftovers,
+            );
             same("edge, refusal", refusal, refused, text)?;
             let mut page = vec![0; page_length(set.m)];
             let refusal = calls::closing_page(&file(&set), set.m, method, 0, &mut page);
             same("edge, refusal of the page", refusal, refused, text)?;
-            in_lent_memory(seed, case(set.m as u64, file(&set), method, 0, 1))?;
+            every_call(seed, &case(set.m as u64, file(&set), method, 0, 1))?;
         }
     }
     Ok(EDGES.len())
@@ -48,27 +56,51 @@ pub fn edges() -> Result<usize, Difference> {
 /// The library's answer.
 fn answer(example: &Example) -> Answer {
     let (m, file) = example.file();
-    let m = m as usize;
+    let (m, mut line) = (m as usize, 0);
     let (refusal, answer) = match example.call {
         Call::Shares => {
             let [mut b, mut n, mut q, mut g, mut u] = [[0; 20]; 5];
-            let refusal = calls::shares(&file, m, &mut b, &mut n, &mut q, &mut g, &mut u);
-            (refusal, Answer::Shares(Box::new(Shares { b, n, q, g, u })))
+            let refusal =
+                calls::shares(&file, m, &mut line, &mut b, &mut n, &mut q, &mut g, &mut u);
+            let shares = Shares {
+                line,
+                b,
+                n,
+                q,
+                g,
+                u,
+            };
+            (refusal, Answer::Shares(Box::new(shares)))
         }
         Call::Delays => {
             let mut p = [0; 20];
-            (calls::delays(&file, m, &mut p), Answer::Delays(p))
+            let refusal = calls::delays(&file, m, &mut line, &mut p);
+            (refusal, Answer::Delays(Delays { line, p }))
         }
         Call::Forecast { method, basis } => {
             let (mut entries, mut leftovers) = (vec![0; entry_count(m)], [0; 20]);
-            let refusal = calls::forecast(&file, m, method, basis, &mut entries, &mut leftovers);
-            (refusal, Answer::Forecast(Forecast { entries, leftovers }))
+            let refusal = calls::forecast(
+                &file,
+                m,
+                method,
+                basis,
+                &mut line,
+                &mut entries,
+                &mut leftovers,
+            );
+            let forecast = Forecast {
+                line,
+                entries,
+                leftovers,
+            };
+            (refusal, Answer::Forecast(forecast))
         }
         Call::BackTest { method, basis, cut } => {
-            let mut sums = [0; 4];
-            let refusal = calls::back_test(&file, m, method, basis, cut as usize, &mut sums);
+            let (mut sums, c) = ([0; 4], cut as usize);
+            let refusal = calls::back_test(&file, m, method, basis, c, &mut line, &mut sums);
             let [cells, cellwise, yearwise, overall] = sums;
             let test = BackTest {
+                line,
                 cells,
                 cellwise,
                 yearwise,
@@ -96,13 +128,4 @@ fn case(m: u64, file: Vec<u8>, method: u64, basis: u64, cut: u64) -> Case {
         out_len: entry_count(m as usize) + 1,
         cut,
     }
-}
-
-/// Every call on a case against the reference, its lent memory included: a refusal leaves all of
-/// it.
-fn in_lent_memory(seed: u64, case: Case) -> Result<(), Difference> {
-    let line = format!("{} {} {}\n", case.m, case.method, case.basis);
-    let input = [line.as_bytes(), &case.file].concat();
-    respond::compare(seed, &input, &mut Counts::default())?;
-    files::compare(seed, &case, &mut Counts::default())
 }

@@ -2,7 +2,7 @@
 
 use crate::difference::{hexadecimal, same, same_list, Difference};
 use crate::{files, Counts};
-use pardesul::{calls, Journal, JournalTally, Refusal, Triangle, TriangleSet};
+use pardesul::{calls, Journal, JournalTally, Refusal};
 use reference::generate::{file, journal_case, Made, Random};
 use reference::{read_set, replay, Set, Transaction};
 
@@ -126,7 +126,7 @@ pub fn compare(seed: u64, journal: &[u8], m: u64) -> Result<Answer, Difference> 
     }
     let found = whole.to_set(m).map_err(Refusal::number);
     let set = answer.as_ref().map(|tally| set(tally, m));
-    let wanted = set.as_ref().map(natural).map_err(|&&number| number);
+    let wanted = set.as_ref().map(files::natural).map_err(|&&number| number);
     same("Journal::to_set", found, wanted, text)?;
     if let Ok(set) = &set {
         same("journal put together", together(journal), whole, text)?;
@@ -151,16 +151,6 @@ fn set(tally: &reference::JournalTally, m: usize) -> Set {
         counts: tally.counts,
         paid: tally.paid,
         ..Set::empty(m, false)
-    }
-}
-
-/// A set without incurred in the type of `pardesul`.
-fn natural(set: &Set) -> TriangleSet {
-    TriangleSet {
-        m: set.m,
-        counts: Triangle::new(set.counts),
-        paid: Triangle::new(set.paid),
-        incurred: None,
     }
 }
 
@@ -190,19 +180,21 @@ fn together(journal: &[u8]) -> Journal {
     together
 }
 
-/// The triangles of an accepted journal are those of a set: the writer refuses nothing but too
-/// little room, and what it writes reads back.
+/// The triangles of an accepted journal are those of a set, on any line: the writer refuses nothing
+/// but too little room, and what it writes reads back.
 fn written(
     seed: u64,
     tally: &JournalTally,
     set: &Set,
     case: impl Fn() -> String,
 ) -> Result<(), Difference> {
+    let set = &set.on_line(seed % 6);
     let wanted = file(set);
     let mut out = vec![0; wanted.len()];
     for (room, refusal) in [(wanted.len() - 1, 7), (wanted.len(), 0)] {
         let (counts, paid, incurred) = (&tally.counts, &tally.paid, &[i64::MIN; 400]);
-        let found = calls::write_set(set.m, false, counts, paid, incurred, &mut out[..room]);
+        let (m, line, out) = (set.m, set.line, &mut out[..room]);
+        let found = calls::write_set(m, line, false, counts, paid, incurred, out);
         same("set, refusal", found, refusal, &case)?;
     }
     same_list("set, file", &out, &wanted, &case)?;

@@ -16,6 +16,7 @@ pub use counts::Counts;
 pub use difference::Difference;
 pub use examples::{edges, examples};
 
+use reference::generate::Case;
 use reference::Window;
 
 /// A comparison of one or several calls on the case of a seed.
@@ -71,7 +72,15 @@ impl Comparison {
     }
 }
 
-/// Compares `respond` on any input; the seed chooses the memory that is lent.
+/// Compares every call that takes a file on any case; the seed chooses the memory that is lent.
+pub fn every_call(seed: u64, case: &Case) -> Result<(), Difference> {
+    let first_line = format!("{} {} {}\n", case.m, case.method, case.basis);
+    let input = [first_line.as_bytes(), &case.file].concat();
+    respond(seed, &input)?;
+    files::compare(seed, case, &mut Counts::default())
+}
+
+/// Compares `respond` on any input.
 pub fn respond(seed: u64, input: &[u8]) -> Result<(), Difference> {
     respond::compare(seed, input, &mut Counts::default()).map(|_| ())
 }

@@ -10,8 +10,16 @@ use reference::write_set;
 /// Bytes before and behind the output.
 const AROUND: usize = 16;
 
+/// What is counted of refusals.
+const REFUSED: [(u64, &str); 4] = [
+    (1, "write refused 1"),
+    (3, "write refused 3"),
+    (5, "write refused 5"),
+    (7, "write refused 7"),
+];
+
 /// The set of the seed: the refusal, every byte of the output and around it, and the file that the
-/// safe crate makes.
+/// safe crate makes, each on the set's line.
 pub fn of_case(seed: u64, counts: &mut Counts) -> Result<(), Difference> {
     let case = writer_case(seed);
     let text = || arguments(seed, &case);
@@ -25,6 +33,7 @@ pub fn of_case(seed: u64, counts: &mut Counts) -> Result<(), Difference> {
     let mut memory = before.clone();
     let refusal = calls::write_set(
         m,
+        case.line,
         case.has_incurred,
         &case.counts,
         &case.paid,
@@ -34,6 +43,7 @@ pub fn of_case(seed: u64, counts: &mut Counts) -> Result<(), Difference> {
     let mut wanted = before;
     let answer = write_set(
         case.m,
+        case.line,
         case.has_incurred,
         &case.counts,
         &case.paid,
@@ -46,6 +56,9 @@ pub fn of_case(seed: u64, counts: &mut Counts) -> Result<(), Difference> {
     let found = natural(&case).to_file().map_err(|refusal| refusal.number());
     same("TriangleSet::to_file", found, file(&case), text)?;
     counts.count("write", refusal == 0);
+    for (number, name) in REFUSED {
+        counts.count(name, refusal == number);
+    }
     Ok(())
 }
 
@@ -57,13 +70,15 @@ fn file(case: &WriterCase) -> Result<Vec<u8>, u64> {
     };
     let mut out = vec![0; length];
     let (counts, paid, incurred) = (&case.counts, &case.paid, &case.incurred);
-    write_set(case.m, case.has_incurred, counts, paid, incurred, &mut out)?;
+    let (m, line, has_incurred) = (case.m, case.line, case.has_incurred);
+    write_set(m, line, has_incurred, counts, paid, incurred, &mut out)?;
     Ok(out)
 }
 
 fn natural(case: &WriterCase) -> TriangleSet {
     TriangleSet {
         m: case.m as usize,
+        line: case.line,
         counts: Triangle::new(case.counts),
         paid: Triangle::new(case.paid),
         incurred: case.has_incurred.then(|| Triangle::new(case.incurred)),

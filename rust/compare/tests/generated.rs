@@ -57,6 +57,12 @@ fn met_no_others(counts: &Counts) {
 fn files() {
     let calls = [
         ("read", 2_000, 500),
+        ("line 0", 400, 0),
+        ("line 1", 200, 0),
+        ("line 2", 200, 0),
+        ("line 3", 200, 0),
+        ("line 4", 200, 0),
+        ("line 5", 200, 0),
         ("shares", 1_500, 700),
         ("delays", 1_000, 700),
         ("claim costs", 1_500, 700),
@@ -70,7 +76,7 @@ fn files() {
         ("page of method 2, basis 1", 800, 1_500),
         ("page refused 1", 20, 0),
         ("page refused 2", 20, 0),
-        ("page refused 3", 20, 0),
+        ("page refused 3", 150, 0),
         ("page refused 4", 20, 0),
         ("page refused 5", 20, 0),
         ("page refused 6", 500, 0),
@@ -83,7 +89,7 @@ fn files() {
         ("page refused 15", 2_000, 500),
         ("cash refused 1", 20, 0),
         ("cash refused 2", 20, 0),
-        ("cash refused 3", 20, 0),
+        ("cash refused 3", 150, 0),
         ("cash refused 4", 20, 0),
         ("cash refused 5", 20, 0),
         ("cash refused 6", 20, 0),
@@ -96,7 +102,7 @@ fn files() {
         ("cash refused 19", 1_500, 0),
         ("check refused 1", 20, 0),
         ("check refused 2", 20, 0),
-        ("check refused 3", 20, 0),
+        ("check refused 3", 150, 0),
         ("check refused 4", 20, 0),
         ("check refused 5", 20, 0),
         ("check refused 9", 20, 0),
@@ -105,7 +111,7 @@ fn files() {
         ("check refused 20", 1_500, 0),
         ("with delays refused 1", 20, 0),
         ("with delays refused 2", 20, 0),
-        ("with delays refused 3", 20, 0),
+        ("with delays refused 3", 150, 0),
         ("with delays refused 4", 20, 0),
         ("with delays refused 5", 20, 0),
         ("with delays refused 6", 20, 0),
@@ -140,13 +146,30 @@ fn files() {
 
 #[test]
 fn damaged_files() {
-    let calls = [("read", 200, 2_000), ("page refused 15", 200, 2_000)];
+    let calls = [
+        ("read", 200, 2_000),
+        ("line 0", 50, 0),
+        ("line 1", 20, 0),
+        ("line 2", 20, 0),
+        ("line 3", 20, 0),
+        ("line 4", 20, 0),
+        ("line 5", 20, 0),
+        ("page refused 3", 1_000, 1_000),
+        ("page refused 15", 200, 2_000),
+    ];
     met_no_others(&the_same("damaged files", &calls));
 }
 
 #[test]
 fn writer() {
-    the_same("writer", &[("write", 2_000, 200)]);
+    let calls = [
+        ("write", 2_000, 200),
+        ("write refused 1", 20, 0),
+        ("write refused 3", 20, 0),
+        ("write refused 5", 20, 0),
+        ("write refused 7", 20, 0),
+    ];
+    the_same("writer", &calls);
 }
 
 /// Journals made in every way, and every answer.

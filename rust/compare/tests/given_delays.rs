@@ -15,6 +15,10 @@ use reference::{Big, Set};
 /// What stands in lent memory before a call.
 const BEFORE: i64 = i64::MIN + 9;
 
+/// The line of cover of every set, and what stands in a lent one before a call.
+const LINE: u64 = 5;
+const NO_LINE: u64 = u64::MAX - 9;
+
 /// The ends of 64 bits and of question 12's range, and numbers whose sums wrap.
 const FAR: [i64; 11] = [
     i64::MIN,
@@ -40,6 +44,7 @@ struct Asked {
 
 impl Asked {
     fn of(set: Set) -> Asked {
+        let set = set.on_line(LINE);
         let (m, file) = (set.m, file(&set));
         let Ok(estimated) = Estimated::of(set) else {
             panic!("a set that can be estimated");
@@ -63,11 +68,18 @@ impl Asked {
     fn stand(&self, delays: &[i64]) -> bool {
         let (file, m) = (&self.file, self.m);
         let wanted = self.estimated.forecast(0, 1, delays);
-        let refusal = wanted.as_ref().err().copied().unwrap_or(0);
-        assert_eq!(calls::check_delays(file, m, delays), refusal, "{delays:?}");
+        let beside = match &wanted {
+            Ok(forecast) => (0, forecast.line),
+            Err(refusal) => (*refusal, NO_LINE),
+        };
+        let mut line = NO_LINE;
+        let refusal = calls::check_delays(file, m, delays, &mut line);
+        assert_eq!((refusal, line), beside, "{delays:?}");
         let (mut out, mut leftovers) = (vec![BEFORE; entry_count(m) + 1], [BEFORE; 20]);
-        let found = calls::forecast_with_delays(file, m, 0, 1, delays, &mut out, &mut leftovers);
-        assert_eq!(found, refusal, "{delays:?}");
+        line = NO_LINE;
+        let refusal =
+            calls::forecast_with_delays(file, m, 0, 1, delays, &mut line, &mut out, &mut leftovers);
+        assert_eq!((refusal, line), beside, "{delays:?}");
         let Ok(wanted) = wanted else {
             assert_eq!(refusal, 20, "{delays:?}");
             assert!(out.iter().chain(&leftovers).all(|&word| word == BEFORE));
@@ -115,8 +127,9 @@ fn three_solutions() {
 #[test]
 fn only_another_solution() {
     let (set, given) = set_of_other_solution();
-    let (file, mut p) = (file(&set), [BEFORE; 20]);
-    assert_eq!(calls::delays(&file, 3, &mut p), 12);
+    let (file, mut line, mut p) = (file(&set), NO_LINE, [BEFORE; 20]);
+    assert_eq!(calls::delays(&file, 3, &mut line, &mut p), 12);
+    assert_eq!((line, p), (NO_LINE, [BEFORE; 20]));
     let asked = Asked::of(set);
     assert!(asked.stand(&given));
     let solved = asked.solved();

@@ -12,6 +12,10 @@ use reference::{Date, Set};
 /// What stands in lent memory before a call.
 const BEFORE: i64 = i64::MIN + 9;
 
+/// The line of cover of every set, and what stands in a lent one before a call.
+const LINE: u64 = 5;
+const NO_LINE: u64 = u64::MAX - 9;
+
 const FIRST: Date = Date::new(1900, 1, 1);
 const LAST: Date = Date::new(2237, 12, 31);
 
@@ -25,7 +29,7 @@ struct Forecast {
 
 impl Forecast {
     fn of(m: usize) -> Forecast {
-        let mut set = Set::empty(m, false);
+        let mut set = Set::empty(m, false).on_line(LINE);
         for (i, j) in cells(m) {
             set.counts[place(i, j)] = 1_000;
             set.paid[place(i, j)] = 12_345_679 * (j as i64 + 1);
@@ -47,7 +51,7 @@ impl Forecast {
     }
 
     /// The window's answer, which is the calculation's, and so is whether a date is possible; a
-    /// refusal leaves the amount.
+    /// refusal leaves the line and the amount.
     fn same(&self, valuation: Date, start: Date, end: Date) -> Result<i64, u64> {
         let window = Window {
             valuation,
@@ -56,10 +60,13 @@ impl Forecast {
         };
         let wanted = self.years.cash(&window);
         let dates = window.dates().map(|date| [date.year, date.month, date.day]);
-        let mut amount = BEFORE;
-        let refusal = calls::cash_in_window(&self.file, self.m, 0, 1, &dates, &mut amount);
-        let expected = wanted.map_or_else(|refusal| (refusal, BEFORE), |amount| (0, amount));
-        assert_eq!((refusal, amount), expected, "{window:?}");
+        let (file, m, mut line, mut amount) = (&self.file, self.m, NO_LINE, BEFORE);
+        let refusal = calls::cash_in_window(file, m, 0, 1, &dates, &mut line, &mut amount);
+        let expected = match wanted {
+            Ok(amount) => (0, LINE, amount),
+            Err(refusal) => (refusal, NO_LINE, BEFORE),
+        };
+        assert_eq!((refusal, line, amount), expected, "{window:?}");
         for (date, [year, month, day]) in window.dates().into_iter().zip(dates) {
             let made = pardesul::Date::new(year, month, day);
             assert_eq!(made.is_ok(), date.exists(), "{date:?}");

@@ -27,7 +27,7 @@ pub struct Target {
     /// How many bytes of an input are its head.
     pub head: fn(&[u8]) -> usize,
     pub any_head: fn(&mut Random) -> Vec<u8>,
-    /// Changes one of the records behind the head.
+    /// Changes one of the records behind the head, or all.
     pub change_record: fn(&mut Random, &mut [[u8; 16]]),
 }
 

@@ -57,11 +57,11 @@ fn generated(target: &Target, random: &mut Random) -> Vec<u8> {
     }
 }
 
-/// Changes a record of a set's file.
+/// Changes a record of a set's file, or the line of cover of all records.
 pub fn change_record(random: &mut Random, records: &mut [[u8; 16]]) {
     let (at, other) = (random.below(records.len()), random.below(records.len()));
     let from = records[other];
-    match random.below(12) {
+    match random.below(14) {
         0 => records.swap(at, other),
         1 => records[at] = from,
         2 => records[at][..3].copy_from_slice(&from[..3]),
@@ -70,6 +70,12 @@ pub fn change_record(random: &mut Random, records: &mut [[u8; 16]]) {
             records[at][byte] = random.pick(&[0, 1, 2, 3, 19, 20, 21, 128, 255]);
         }
         4 | 5 => records[at][8..].copy_from_slice(&from[8..]),
+        // Lines of cover, and the first number that is none.
+        6 => {
+            let line = random.below(7) as u8;
+            records.iter_mut().for_each(|record| record[3] = line);
+        }
+        7 => records[at][3] = random.below(7) as u8,
         _ => {
             let value = i64::from_le_bytes(records[at][8..].try_into().unwrap());
             let value = any_value(random, records[at][0], value);

@@ -31,7 +31,10 @@ pub fn table(
     basis: Basis,
     valuation: Date,
 ) -> Result<String, Refusal> {
-    let cash = |start, end| set.cash_in_window(method, basis, valuation, start, end);
+    let cash = |start, end| {
+        let cash = set.cash_in_window(method, basis, valuation, start, end);
+        cash.map(|cash| cash.amount)
+    };
     // Where there is no table, there is no empty window either.
     cash(valuation, valuation)?;
     let mut table = String::new();

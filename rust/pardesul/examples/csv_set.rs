@@ -1,10 +1,10 @@
-//! A set's file from triangles in CSV: `csv_set FOLDER [METHOD BASIS]` reads `counts.csv`,
+//! A set's file from triangles in CSV: `csv_set FOLDER [METHOD BASIS] [LINE]` reads `counts.csv`,
 //! `paid.csv` and, where it is there, `incurred.csv` of the folder, and writes the set's file to
 //! standard output; with a method and a basis it writes an input of `closing`, which has a first
-//! line before the file.
+//! line before the file. LINE is the set's line of cover, 0 to 5, and 0 where it is left out.
 //!
-//! A line is an accident year, with its delays across; cells past the diagonal are empty or left
-//! out.
+//! A line of the CSV is an accident year, with its delays across; cells past the diagonal are empty
+//! or left out.
 
 use pardesul::{Triangle, TriangleSet};
 use std::error::Error;
@@ -14,22 +14,32 @@ use std::{env, fs};
 
 fn main() -> Result<(), Box<dyn Error>> {
     let words: Vec<String> = env::args().skip(1).collect();
-    let bytes = match &words[..] {
-        [folder] => read_folder(Path::new(folder))?.to_file()?,
-        [folder, method, basis] => closing_input(Path::new(folder), method, basis)?,
-        _ => return Err("usage: csv_set FOLDER [METHOD BASIS]".into()),
+    let words: Vec<&str> = words.iter().map(String::as_str).collect();
+    Ok(io::stdout().write_all(&made(&words)?)?)
+}
+
+/// What is written for these words.
+pub fn made(words: &[&str]) -> Result<Vec<u8>, Box<dyn Error>> {
+    match words {
+        [folder, rest @ ..] if rest.len() <= 3 => written(read_folder(Path::new(folder))?, rest),
+        _ => Err("usage: csv_set FOLDER [METHOD BASIS] [LINE]".into()),
+    }
+}
+
+/// What is written of a set, where METHOD and BASIS, LINE, both or neither follow the words that
+/// name it.
+pub fn written(mut set: TriangleSet, words: &[&str]) -> Result<Vec<u8>, Box<dyn Error>> {
+    let (first_line, line) = match words {
+        [method, basis, line @ ..] => (format!("{} {method} {basis}\n", set.m), line),
+        line => (String::new(), line),
     };
-    Ok(io::stdout().write_all(&bytes)?)
+    if let [line] = line {
+        set.line = line.parse().map_err(|error| format!("{line}: {error}"))?;
+    }
+    Ok([first_line.as_bytes(), &set.to_file()?].concat())
 }
 
-/// The input of `closing` for the set of a folder.
-pub fn closing_input(folder: &Path, method: &str, basis: &str) -> Result<Vec<u8>, Box<dyn Error>> {
-    let set = read_folder(folder)?;
-    let line = format!("{} {method} {basis}\n", set.m);
-    Ok([line.as_bytes(), &set.to_file()?].concat())
-}
-
-/// The set of a folder; counts say how many accident years there are.
+/// The set of a folder, on line 0; counts say how many accident years there are.
 pub fn read_folder(folder: &Path) -> Result<TriangleSet, Box<dyn Error>> {
     let text = |name: &str| {
         let path = folder.join(name);
@@ -43,6 +53,7 @@ pub fn read_folder(folder: &Path) -> Result<TriangleSet, Box<dyn Error>> {
     };
     Ok(TriangleSet {
         m,
+        line: 0,
         counts: triangle("counts.csv", &counts, m)?,
         paid: triangle("paid.csv", &text("paid.csv")?, m)?,
         incurred,

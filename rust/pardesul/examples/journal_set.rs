@@ -1,10 +1,14 @@
-//! A set's file from a claims journal in CSV: `journal_set FILE M [METHOD BASIS]` replays the
-//! journal of M accident years, and writes the file of its counts and payments to standard output;
-//! with a method and a basis it writes an input of `closing`, which has a first line before the
-//! file.
+//! A set's file from a claims journal in CSV: `journal_set FILE M [METHOD BASIS] [LINE]` replays
+//! the journal of M accident years, and writes the file of its counts and payments to standard
+//! output; with a method and a basis it writes an input of `closing`, which has a first line before
+//! the file. LINE is the set's line of cover, 0 to 5, and 0 where it is left out.
 //!
-//! A line is a transaction: the claim's number, `report` or `paid`, the accident year, the calendar
-//! year and the amount. A report has the amount 0, or none.
+//! A line of the CSV is a transaction: the claim's number, `report` or `paid`, the accident year,
+//! the calendar year and the amount. A report has the amount 0, or none.
+
+#[allow(dead_code)]
+#[path = "csv_set.rs"]
+mod csv_set;
 
 use pardesul::{Journal, TriangleSet};
 use std::error::Error;
@@ -16,27 +20,21 @@ use std::{env, fs};
 
 fn main() -> Result<(), Box<dyn Error>> {
     let words: Vec<String> = env::args().skip(1).collect();
-    let bytes = match &words[..] {
-        [file, m] => read_set(Path::new(file), m)?.to_file()?,
-        [file, m, method, basis] => closing_input(Path::new(file), m, method, basis)?,
-        _ => return Err("usage: journal_set FILE M [METHOD BASIS]".into()),
-    };
-    Ok(io::stdout().write_all(&bytes)?)
+    let words: Vec<&str> = words.iter().map(String::as_str).collect();
+    Ok(io::stdout().write_all(&made(&words)?)?)
 }
 
-/// The input of `closing` for the set of a journal.
-pub fn closing_input(
-    file: &Path,
-    m: &str,
-    method: &str,
-    basis: &str,
-) -> Result<Vec<u8>, Box<dyn Error>> {
-    let set = read_set(file, m)?;
-    let line = format!("{} {method} {basis}\n", set.m);
-    Ok([line.as_bytes(), &set.to_file()?].concat())
+/// What is written for these words.
+pub fn made(words: &[&str]) -> Result<Vec<u8>, Box<dyn Error>> {
+    match words {
+        [file, m, rest @ ..] if rest.len() <= 3 => {
+            csv_set::written(read_set(Path::new(file), m)?, rest)
+        }
+        _ => Err("usage: journal_set FILE M [METHOD BASIS] [LINE]".into()),
+    }
 }
 
-/// The set of a journal; where a line is refused, it is named.
+/// The set of a journal, on line 0; where a transaction is refused, its line is named.
 pub fn read_set(file: &Path, m: &str) -> Result<TriangleSet, Box<dyn Error>> {
     let named = |error: &dyn Display| format!("{}: {error}", file.display());
     let text = fs::read_to_string(file).map_err(|error| named(&error))?;

@@ -1,6 +1,6 @@
 //! A set's file with its records in the writer's order: `ordered_set FILE M` reads the file of M
-//! accident years, its records in any order, and writes the set's file to standard output. Files of
-//! equal sets then are equal, byte for byte.
+//! accident years, its records in any order, and writes the set's file to standard output, on the
+//! same line of cover. Files of equal sets then are equal, byte for byte.
 
 use pardesul::TriangleSet;
 use std::error::Error;

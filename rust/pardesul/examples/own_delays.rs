@@ -42,7 +42,7 @@ pub fn read_delays(file: &Path) -> Result<Vec<i64>, String> {
 /// What is wrong with delays that are refused with 20: their number, or the first one that is off.
 pub fn first_off(set: &TriangleSet, delays: &[i64]) -> Result<Option<String>, Refusal> {
     match set.check_delays(delays) {
-        Ok(()) => return Ok(None),
+        Ok(_) => return Ok(None),
         Err(refusal) if refusal.number() != 20 => return Err(refusal),
         Err(_) => {}
     }

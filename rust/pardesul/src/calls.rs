@@ -1,6 +1,7 @@
 //! The calls of the static library over lent memory, one function for each. The answer is the
 //! refusal number, but for [`respond`]: 0 where the call is accepted; a refusal leaves lent memory
-//! as it was.
+//! as it was. A call that takes the file of one set hands the set's line of cover, 0 to 5, back in
+//! `line`, but for [`closing_page`], whose page is the same on every line.
 
 use crate::JournalTally;
 
@@ -12,6 +13,7 @@ mod foreign {
             file: *const u8,
             file_len: usize,
             m: usize,
+            line: *mut u64,
             has_incurred: *mut bool,
             counts: *mut [i64; 400],
             paid: *mut [i64; 400],
@@ -19,6 +21,7 @@ mod foreign {
         ) -> u64;
         pub fn pardesul_write_set(
             m: usize,
+            line: u64,
             has_incurred: bool,
             counts: *const [i64; 400],
             paid: *const [i64; 400],
@@ -30,6 +33,7 @@ mod foreign {
             file: *const u8,
             file_len: usize,
             m: usize,
+            line: *mut u64,
             b: *mut [i64; 20],
             n: *mut [i64; 20],
             q: *mut [i64; 20],
@@ -40,6 +44,7 @@ mod foreign {
             file: *const u8,
             file_len: usize,
             m: usize,
+            line: *mut u64,
             p: *mut [i64; 20],
         ) -> u64;
         pub fn pardesul_check_delays(
@@ -48,11 +53,13 @@ mod foreign {
             m: usize,
             delays: *const i64,
             number: usize,
+            line: *mut u64,
         ) -> u64;
         pub fn pardesul_claim_costs(
             file: *const u8,
             file_len: usize,
             m: usize,
+            line: *mut u64,
             mu: *mut f64,
             factors: *mut [f64; 20],
             kinds: *mut [u8; 20],
@@ -64,6 +71,7 @@ mod foreign {
             m: usize,
             method: u64,
             basis: u64,
+            line: *mut u64,
             out: *mut i64,
             out_len: usize,
             leftovers: *mut [i64; 20],
@@ -76,6 +84,7 @@ mod foreign {
             basis: u64,
             delays: *const i64,
             number: usize,
+            line: *mut u64,
             out: *mut i64,
             out_len: usize,
             leftovers: *mut [i64; 20],
@@ -87,6 +96,7 @@ mod foreign {
             method: u64,
             basis: u64,
             c: usize,
+            line: *mut u64,
             cells: *mut u64,
             cellwise: *mut u64,
             yearwise: *mut u64,
@@ -110,6 +120,7 @@ mod foreign {
             valuation: *const [u64; 3],
             start: *const [u64; 3],
             end: *const [u64; 3],
+            line: *mut u64,
             amount: *mut i64,
         ) -> u64;
         pub fn pardesul_replay(
@@ -134,19 +145,29 @@ mod foreign {
     }
 }
 
-/// The set of a file: each triangle with cell (i,j) at 20 × (i-1) + j and zeros elsewhere, and
-/// `has_incurred`, whether incurred is there.
+/// The set of a file: its line of cover, each triangle with cell (i,j) at 20 × (i-1) + j and zeros
+/// elsewhere, and `has_incurred`, whether incurred is there.
 ///
 /// ```
-/// use pardesul::calls::read_set;
+/// use pardesul::calls::{read_set, write_set};
 ///
-/// let (mut has_incurred, [mut counts, mut paid, mut incurred]) = (true, [[9; 400]; 3]);
-/// assert_eq!(read_set(&[], 21, &mut has_incurred, &mut counts, &mut paid, &mut incurred), 1);
-/// assert_eq!((has_incurred, [counts, paid, incurred]), (true, [[9; 400]; 3]));
+/// let mut file = [0; 96];
+/// assert_eq!(write_set(2, 5, false, &[1; 400], &[1; 400], &[0; 400], &mut file), 0);
+/// let (mut line, mut has_incurred) = (9, true);
+/// let [mut counts, mut paid, mut incurred] = [[9; 400]; 3];
+/// let refusal =
+///     read_set(&[], 2, &mut line, &mut has_incurred, &mut counts, &mut paid, &mut incurred);
+/// assert_eq!((refusal, line, has_incurred), (2, 9, true));
+/// assert_eq!([counts, paid, incurred], [[9; 400]; 3]);
+/// let refusal =
+///     read_set(&file, 2, &mut line, &mut has_incurred, &mut counts, &mut paid, &mut incurred);
+/// assert_eq!((refusal, line, has_incurred), (0, 5, false));
+/// assert_eq!((&counts[..3], &counts[20..22]), (&[1, 1, 0][..], &[1, 0][..]));
 /// ```
 pub fn read_set(
     file: &[u8],
     m: usize,
+    line: &mut u64,
     has_incurred: &mut bool,
     counts: &mut [i64; 400],
     paid: &mut [i64; 400],
@@ -159,6 +180,7 @@ pub fn read_set(
             file.as_ptr(),
             file.len(),
             m,
+            line,
             has_incurred,
             counts,
             paid,
@@ -168,20 +190,23 @@ pub fn read_set(
 }
 
 /// Writes a set's file to the front of `out`, its records by kind, then accident year, then delay,
-/// each ascending; the bytes past it stay. `has_incurred` says whether incurred is there.
+/// each ascending, and each with the line of cover; the bytes past it stay. `has_incurred` says
+/// whether incurred is there.
 ///
 /// ```
 /// use pardesul::calls::write_set;
 ///
 /// let mut out = [9; 100];
-/// assert_eq!(write_set(2, false, &[1; 400], &[1; 400], &[0; 400], &mut out), 0);
-/// assert_eq!(out[..9], [0, 1, 0, 0, 0, 0, 0, 0, 1]);
-/// assert_eq!(out[16..25], [0, 1, 1, 0, 0, 0, 0, 0, 1]);
+/// assert_eq!(write_set(2, 5, false, &[1; 400], &[1; 400], &[0; 400], &mut out), 0);
+/// assert_eq!(out[..9], [0, 1, 0, 5, 0, 0, 0, 0, 1]);
+/// assert_eq!(out[16..25], [0, 1, 1, 5, 0, 0, 0, 0, 1]);
 /// assert_eq!(out[96..], [9; 4]);
-/// assert_eq!(write_set(2, true, &[1; 400], &[1; 400], &[0; 400], &mut out), 7);
+/// assert_eq!(write_set(2, 6, false, &[1; 400], &[1; 400], &[0; 400], &mut out), 3);
+/// assert_eq!(write_set(2, 5, true, &[1; 400], &[1; 400], &[0; 400], &mut out), 7);
 /// ```
 pub fn write_set(
     m: usize,
+    line: u64,
     has_incurred: bool,
     counts: &[i64; 400],
     paid: &[i64; 400],
@@ -192,6 +217,7 @@ pub fn write_set(
     unsafe {
         foreign::pardesul_write_set(
             m,
+            line,
             has_incurred,
             counts,
             paid,
@@ -206,15 +232,21 @@ pub fn write_set(
 /// at place i - 1, and zeros in the other places.
 ///
 /// ```
-/// use pardesul::calls::shares;
+/// use pardesul::calls::{shares, write_set};
 ///
-/// let [mut b, mut n, mut q, mut g, mut u] = [[9; 20]; 5];
-/// assert_eq!(shares(&[], 2, &mut b, &mut n, &mut q, &mut g, &mut u), 2);
-/// assert_eq!([b, n, q, g, u], [[9; 20]; 5]);
+/// let mut file = [0; 96];
+/// assert_eq!(write_set(2, 5, false, &[1; 400], &[1; 400], &[0; 400], &mut file), 0);
+/// let (mut line, [mut b, mut n, mut q, mut g, mut u]) = (9, [[9; 20]; 5]);
+/// assert_eq!(shares(&[], 2, &mut line, &mut b, &mut n, &mut q, &mut g, &mut u), 2);
+/// assert_eq!((line, [b, n, q, g, u]), (9, [[9; 20]; 5]));
+/// assert_eq!(shares(&file, 2, &mut line, &mut b, &mut n, &mut q, &mut g, &mut u), 0);
+/// assert_eq!((line, &n[..3]), (5, &[2, 2, 0][..]));
 /// ```
+#[allow(clippy::too_many_arguments)] // as many as the call has
 pub fn shares(
     file: &[u8],
     m: usize,
+    line: &mut u64,
     b: &mut [i64; 20],
     n: &mut [i64; 20],
     q: &mut [i64; 20],
@@ -222,21 +254,25 @@ pub fn shares(
     u: &mut [i64; 20],
 ) -> u64 {
     // SAFETY: as above.
-    unsafe { foreign::pardesul_shares(file.as_ptr(), file.len(), m, b, n, q, g, u) }
+    unsafe { foreign::pardesul_shares(file.as_ptr(), file.len(), m, line, b, n, q, g, u) }
 }
 
 /// The delays: p(l) at place l, and zeros in the other places.
 ///
 /// ```
-/// use pardesul::calls::delays;
+/// use pardesul::calls::{delays, write_set};
 ///
-/// let mut p = [9; 20];
-/// assert_eq!(delays(&[], 2, &mut p), 2);
-/// assert_eq!(p, [9; 20]);
+/// let mut file = [0; 96];
+/// assert_eq!(write_set(2, 5, false, &[1; 400], &[1; 400], &[0; 400], &mut file), 0);
+/// let (mut line, mut p) = (9, [9; 20]);
+/// assert_eq!(delays(&[], 2, &mut line, &mut p), 2);
+/// assert_eq!((line, p), (9, [9; 20]));
+/// assert_eq!(delays(&file, 2, &mut line, &mut p), 0);
+/// assert_eq!((line, &p[..3]), (5, &[1_000_000_000, 0, 0][..]));
 /// ```
-pub fn delays(file: &[u8], m: usize, p: &mut [i64; 20]) -> u64 {
+pub fn delays(file: &[u8], m: usize, line: &mut u64, p: &mut [i64; 20]) -> u64 {
     // SAFETY: as above.
-    unsafe { foreign::pardesul_delays(file.as_ptr(), file.len(), m, p) }
+    unsafe { foreign::pardesul_delays(file.as_ptr(), file.len(), m, line, p) }
 }
 
 /// Whether delays from elsewhere, any number of them, are delays of the set.
@@ -245,18 +281,19 @@ pub fn delays(file: &[u8], m: usize, p: &mut [i64; 20]) -> u64 {
 /// use pardesul::calls::{check_delays, write_set};
 ///
 /// // Each year has one claim, on which 1000 is paid at once and 1000 a year later.
-/// let mut file = [0; 96];
+/// let (mut file, mut line) = ([0; 96], 9);
 /// let counts = std::array::from_fn(|place| [1, 0][place % 2]);
-/// assert_eq!(write_set(2, false, &counts, &[1_000; 400], &[0; 400], &mut file), 0);
-/// assert_eq!(check_delays(&file, 2, &[500_000_000, 500_000_000]), 0);
-/// assert_eq!(check_delays(&file, 2, &[500_000_000, 500_000_001]), 20);
-/// assert_eq!(check_delays(&file, 2, &[500_000_000]), 20);
+/// assert_eq!(write_set(2, 5, false, &counts, &[1_000; 400], &[0; 400], &mut file), 0);
+/// assert_eq!(check_delays(&file, 2, &[500_000_000, 500_000_001], &mut line), 20);
+/// assert_eq!(check_delays(&file, 2, &[500_000_000], &mut line), 20);
+/// assert_eq!(line, 9);
+/// assert_eq!(check_delays(&file, 2, &[500_000_000, 500_000_000], &mut line), 0);
+/// assert_eq!(line, 5);
 /// ```
-pub fn check_delays(file: &[u8], m: usize, delays: &[i64]) -> u64 {
+pub fn check_delays(file: &[u8], m: usize, delays: &[i64], line: &mut u64) -> u64 {
+    let (len, number) = (file.len(), delays.len());
     // SAFETY: as above.
-    unsafe {
-        foreign::pardesul_check_delays(file.as_ptr(), file.len(), m, delays.as_ptr(), delays.len())
-    }
+    unsafe { foreign::pardesul_check_delays(file.as_ptr(), len, m, delays.as_ptr(), number, line) }
 }
 
 /// The claim costs: mu; f(j) of paid at place j - 1, and zeros in the other places; of year i's
@@ -264,24 +301,30 @@ pub fn check_delays(file: &[u8], m: usize, delays: &[i64]) -> u64 {
 /// 0 where there is none. The kind is 1 in the other places.
 ///
 /// ```
-/// use pardesul::calls::claim_costs;
+/// use pardesul::calls::{claim_costs, write_set};
 ///
-/// let (mut mu, mut factors, mut kinds, mut ratios) = (9.0, [9.0; 20], [9; 20], [9.0; 20]);
-/// assert_eq!(claim_costs(&[], 2, &mut mu, &mut factors, &mut kinds, &mut ratios), 2);
-/// assert_eq!((mu, factors, kinds, ratios), (9.0, [9.0; 20], [9; 20], [9.0; 20]));
+/// let mut file = [0; 96];
+/// assert_eq!(write_set(2, 5, false, &[1; 400], &[1; 400], &[0; 400], &mut file), 0);
+/// let (mut line, mut mu) = (9, 9.0);
+/// let (mut factors, mut kinds, mut ratios) = ([9.0; 20], [9; 20], [9.0; 20]);
+/// let refusal = claim_costs(&[], 2, &mut line, &mut mu, &mut factors, &mut kinds, &mut ratios);
+/// assert_eq!((refusal, line, mu), (2, 9, 9.0));
+/// assert_eq!((factors, kinds, ratios), ([9.0; 20], [9; 20], [9.0; 20]));
+/// let refusal = claim_costs(&file, 2, &mut line, &mut mu, &mut factors, &mut kinds, &mut ratios);
+/// assert_eq!((refusal, line, mu), (0, 5, 1.0));
 /// ```
 pub fn claim_costs(
     file: &[u8],
     m: usize,
+    line: &mut u64,
     mu: &mut f64,
     factors: &mut [f64; 20],
     kinds: &mut [u8; 20],
     ratios: &mut [f64; 20],
 ) -> u64 {
+    let (at, len) = (file.as_ptr(), file.len());
     // SAFETY: as above.
-    unsafe {
-        foreign::pardesul_claim_costs(file.as_ptr(), file.len(), m, mu, factors, kinds, ratios)
-    }
+    unsafe { foreign::pardesul_claim_costs(at, len, m, line, mu, factors, kinds, ratios) }
 }
 
 /// The forecast: 2m(2m-1) entries at the front of `out`, where those past them stay, and the
@@ -289,17 +332,22 @@ pub fn claim_costs(
 /// the next one IBNR. Methods 0 DCL, 1 BDCL, 2 IDCL; bases 0 actual, 1 estimated counts.
 ///
 /// ```
-/// use pardesul::calls::forecast;
+/// use pardesul::calls::{forecast, write_set};
 ///
-/// let (mut out, mut leftovers) = ([9; 12], [9; 20]);
-/// assert_eq!(forecast(&[], 2, 0, 1, &mut out, &mut leftovers), 2);
-/// assert_eq!((out, leftovers), ([9; 12], [9; 20]));
+/// let mut file = [0; 96];
+/// assert_eq!(write_set(2, 5, false, &[1; 400], &[1; 400], &[0; 400], &mut file), 0);
+/// let (mut line, mut out, mut leftovers) = (9, [9; 12], [9; 20]);
+/// assert_eq!(forecast(&[], 2, 0, 1, &mut line, &mut out, &mut leftovers), 2);
+/// assert_eq!((line, out, leftovers), (9, [9; 12], [9; 20]));
+/// assert_eq!(forecast(&file, 2, 0, 1, &mut line, &mut out, &mut leftovers), 0);
+/// assert_eq!((line, &out[8..10], leftovers), (5, &[0, 1][..], [0; 20]));
 /// ```
 pub fn forecast(
     file: &[u8],
     m: usize,
     method: u64,
     basis: u64,
+    line: &mut u64,
     out: &mut [i64],
     leftovers: &mut [i64; 20],
 ) -> u64 {
@@ -312,6 +360,7 @@ pub fn forecast(
             m,
             method,
             basis,
+            line,
             out.as_mut_ptr(),
             room,
             leftovers,
@@ -326,22 +375,24 @@ pub fn forecast(
 /// use pardesul::calls::{forecast_with_delays, write_set};
 ///
 /// // Each year has one claim, on which 1000 is paid at once and 1000 a year later.
-/// let (mut file, mut out, mut leftovers) = ([0; 96], [9; 12], [9; 20]);
+/// let (mut file, mut line, mut out, mut leftovers) = ([0; 96], 9, [9; 12], [9; 20]);
 /// let counts = std::array::from_fn(|place| [1, 0][place % 2]);
-/// assert_eq!(write_set(2, false, &counts, &[1_000; 400], &[0; 400], &mut file), 0);
-/// let mut given = [500_000_000, 500_000_001];
-/// assert_eq!(forecast_with_delays(&file, 2, 0, 1, &given, &mut out, &mut leftovers), 20);
-/// assert_eq!((out, leftovers), ([9; 12], [9; 20]));
-/// given[1] = 500_000_000;
-/// assert_eq!(forecast_with_delays(&file, 2, 0, 1, &given, &mut out, &mut leftovers), 0);
-/// assert_eq!((&out[8..10], leftovers), (&[1_000, 0][..], [0; 20]));
+/// assert_eq!(write_set(2, 5, false, &counts, &[1_000; 400], &[0; 400], &mut file), 0);
+/// let off = [500_000_000, 500_000_001];
+/// let refusal = forecast_with_delays(&file, 2, 0, 1, &off, &mut line, &mut out, &mut leftovers);
+/// assert_eq!((refusal, line, out, leftovers), (20, 9, [9; 12], [9; 20]));
+/// let own = [500_000_000; 2];
+/// let refusal = forecast_with_delays(&file, 2, 0, 1, &own, &mut line, &mut out, &mut leftovers);
+/// assert_eq!((refusal, line, &out[8..10], leftovers), (0, 5, &[1_000, 0][..], [0; 20]));
 /// ```
+#[allow(clippy::too_many_arguments)] // as many as the call has
 pub fn forecast_with_delays(
     file: &[u8],
     m: usize,
     method: u64,
     basis: u64,
     delays: &[i64],
+    line: &mut u64,
     out: &mut [i64],
     leftovers: &mut [i64; 20],
 ) -> u64 {
@@ -356,6 +407,7 @@ pub fn forecast_with_delays(
             basis,
             delays.as_ptr(),
             number,
+            line,
             out.as_mut_ptr(),
             room,
             leftovers,
@@ -367,11 +419,15 @@ pub fn forecast_with_delays(
 /// sums of absolute errors by cell, by calendar year and of the total, in this order.
 ///
 /// ```
-/// use pardesul::calls::back_test;
+/// use pardesul::calls::{back_test, write_set};
 ///
-/// let mut sums = [9; 4];
-/// assert_eq!(back_test(&[], 3, 0, 1, 1, &mut sums), 2);
-/// assert_eq!(sums, [9; 4]);
+/// let mut file = [0; 192];
+/// assert_eq!(write_set(3, 5, false, &[1; 400], &[1; 400], &[0; 400], &mut file), 0);
+/// let (mut line, mut sums) = (9, [9; 4]);
+/// assert_eq!(back_test(&file, 3, 0, 1, 2, &mut line, &mut sums), 8);
+/// assert_eq!((line, sums), (9, [9; 4]));
+/// assert_eq!(back_test(&file, 3, 0, 1, 1, &mut line, &mut sums), 0);
+/// assert_eq!((line, sums), (5, [1, 0, 0, 0]));
 /// ```
 pub fn back_test(
     file: &[u8],
@@ -379,6 +435,7 @@ pub fn back_test(
     method: u64,
     basis: u64,
     c: usize,
+    line: &mut u64,
     sums: &mut [u64; 4],
 ) -> u64 {
     let [cells, cellwise, yearwise, overall] = sums;
@@ -386,7 +443,7 @@ pub fn back_test(
     // SAFETY: as above.
     unsafe {
         foreign::pardesul_back_test(
-            at, len, m, method, basis, c, cells, cellwise, yearwise, overall,
+            at, len, m, method, basis, c, line, cells, cellwise, yearwise, overall,
         )
     }
 }
@@ -398,7 +455,7 @@ pub fn back_test(
 /// use pardesul::calls::{closing_page, write_set};
 ///
 /// let (mut file, mut page) = ([0; 96], [9; 273]);
-/// assert_eq!(write_set(2, false, &[1; 400], &[1; 400], &[0; 400], &mut file), 0);
+/// assert_eq!(write_set(2, 5, false, &[1; 400], &[1; 400], &[0; 400], &mut file), 0);
 /// assert_eq!(closing_page(&file, 2, 0, 1, &mut page[..271]), 15);
 /// assert_eq!(page, [9; 273]);
 /// assert_eq!(closing_page(&file, 2, 0, 1, &mut page), 0);
@@ -428,15 +485,15 @@ pub fn closing_page(file: &[u8], m: usize, method: u64, basis: u64, page: &mut [
 /// use pardesul::calls::{cash_in_window, write_set};
 ///
 /// // Each year has one claim, on which 1000 is paid at once and 1000 a year later.
-/// let (mut file, mut amount) = ([0; 96], 9);
+/// let (mut file, mut line, mut amount) = ([0; 96], 9, 9);
 /// let counts = std::array::from_fn(|place| [1, 0][place % 2]);
-/// assert_eq!(write_set(2, false, &counts, &[1_000; 400], &[0; 400], &mut file), 0);
+/// assert_eq!(write_set(2, 5, false, &counts, &[1_000; 400], &[0; 400], &mut file), 0);
 /// let mut dates = [[2023, 12, 31], [2024, 2, 29], [2024, 2, 30]];
-/// assert_eq!(cash_in_window(&file, 2, 0, 1, &dates, &mut amount), 19);
-/// assert_eq!(amount, 9);
+/// assert_eq!(cash_in_window(&file, 2, 0, 1, &dates, &mut line, &mut amount), 19);
+/// assert_eq!((line, amount), (9, 9));
 /// dates[2] = [2024, 12, 31];
-/// assert_eq!(cash_in_window(&file, 2, 0, 1, &dates, &mut amount), 0);
-/// assert_eq!(amount, 836);
+/// assert_eq!(cash_in_window(&file, 2, 0, 1, &dates, &mut line, &mut amount), 0);
+/// assert_eq!((line, amount), (5, 836));
 /// ```
 pub fn cash_in_window(
     file: &[u8],
@@ -444,13 +501,16 @@ pub fn cash_in_window(
     method: u64,
     basis: u64,
     dates: &[[u64; 3]; 3],
+    line: &mut u64,
     amount: &mut i64,
 ) -> u64 {
     let [valuation, start, end] = dates;
     let (at, len) = (file.as_ptr(), file.len());
     // SAFETY: as above.
     unsafe {
-        foreign::pardesul_cash_in_window(at, len, m, method, basis, valuation, start, end, amount)
+        foreign::pardesul_cash_in_window(
+            at, len, m, method, basis, valuation, start, end, line, amount,
+        )
     }
 }
 

@@ -2,6 +2,15 @@
 
 use crate::{calls, Basis, Date, Method, Refusal, TriangleSet};
 
+/// What falls due in a window.
+#[derive(Clone, Copy, Debug, PartialEq, Eq)]
+pub struct Cash {
+    /// The set's line of cover.
+    pub line: u64,
+    /// The amount, RBNS and IBNR together.
+    pub amount: i64,
+}
+
 /// What of a file's forecast, RBNS and IBNR, falls due from `start` on and before `end`.
 ///
 /// Forecast year 1, the calendar year 1 that [`respond`] prints, starts on the valuation date, each
@@ -16,10 +25,11 @@ use crate::{calls, Basis, Date, Method, Refusal, TriangleSet};
 ///
 /// let counts = Triangle::from_rows(&[&[80, 20], &[90]]);
 /// let paid = Triangle::from_rows(&[&[600, 400], &[660]]);
-/// let file = TriangleSet { m: 2, counts, paid, incurred: None }.to_file()?;
+/// let file = TriangleSet { m: 2, line: 0, counts, paid, incurred: None }.to_file()?;
 /// let valuation = Date::new(2023, 12, 31)?;
 /// let cash = |start, end| {
 ///     cash_in_window(&file, 2, Method::Dcl, Basis::Estimated, valuation, start, end)
+///         .map(|cash| cash.amount)
 /// };
 ///
 /// // Of the first year's 502 half is due before the 184th of its 366 days.
@@ -46,18 +56,19 @@ pub fn cash_in_window(
     valuation: Date,
     start: Date,
     end: Date,
-) -> Result<i64, Refusal> {
+) -> Result<Cash, Refusal> {
     let dates = [valuation, start, end].map(Date::numbers);
-    let mut amount = 0;
+    let (mut line, mut amount) = (0, 0);
     Refusal::of(calls::cash_in_window(
         file,
         m,
         method as u64,
         basis as u64,
         &dates,
+        &mut line,
         &mut amount,
     ))?;
-    Ok(amount)
+    Ok(Cash { line, amount })
 }
 
 impl TriangleSet {
@@ -69,16 +80,16 @@ impl TriangleSet {
     ///
     /// let counts = Triangle::from_rows(&[&[80, 20], &[90]]);
     /// let paid = Triangle::from_rows(&[&[600, 400], &[660]]);
-    /// let set = TriangleSet { m: 2, counts, paid, incurred: None };
+    /// let set = TriangleSet { m: 2, line: 0, counts, paid, incurred: None };
     /// let valuation = Date::new(2023, 12, 31)?;
     /// let (start, end) = (Date::new(2024, 1, 1)?, Date::new(2024, 4, 1)?);
     /// let cash = set.cash_in_window(Method::Dcl, Basis::Estimated, valuation, start, end)?;
-    /// assert_eq!(cash, 125);
+    /// assert_eq!(cash.amount, 125);
     /// # Ok::<(), pardesul::Refusal>(())
     /// ```
     ///
     /// # Errors
-    /// Refuses with 1, 5, 6, 9 to 14 and 19.
+    /// Refuses with 1, 3, 5, 6, 9 to 14 and 19.
     pub fn cash_in_window(
         &self,
         method: Method,
@@ -86,7 +97,7 @@ impl TriangleSet {
         valuation: Date,
         start: Date,
         end: Date,
-    ) -> Result<i64, Refusal> {
+    ) -> Result<Cash, Refusal> {
         let file = self.to_file()?;
         cash_in_window(&file, self.m, method, basis, valuation, start, end)
     }

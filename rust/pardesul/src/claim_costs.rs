@@ -16,6 +16,8 @@ pub enum Inflation {
 /// The claim costs of a file.
 #[derive(Clone, Debug, PartialEq)]
 pub struct ClaimCosts {
+    /// The set's line of cover.
+    pub line: u64,
     /// The mean cost of year 1.
     pub mu: f64,
     /// The factors of paid, f(1) to f(m - 1).
@@ -29,10 +31,12 @@ pub struct ClaimCosts {
 /// # Errors
 /// Refuses with 1 to 5 and 9 to 11.
 pub fn claim_costs(file: &[u8], m: usize) -> Result<ClaimCosts, Refusal> {
-    let (mut mu, mut factors, mut kinds, mut ratios) = (0.0, [0.0; 20], [0; 20], [0.0; 20]);
+    let (mut line, mut mu) = (0, 0.0);
+    let (mut factors, mut kinds, mut ratios) = ([0.0; 20], [0; 20], [0.0; 20]);
     Refusal::of(calls::claim_costs(
         file,
         m,
+        &mut line,
         &mut mu,
         &mut factors,
         &mut kinds,
@@ -44,6 +48,7 @@ pub fn claim_costs(file: &[u8], m: usize) -> Result<ClaimCosts, Refusal> {
         _ => Inflation::Ratio(ratios[year]),
     };
     Ok(ClaimCosts {
+        line,
         mu,
         factors: factors[..m - 1].to_vec(),
         inflations: (0..m).map(inflation).collect(),
@@ -58,7 +63,7 @@ impl TriangleSet {
     ///
     /// let counts = Triangle::from_rows(&[&[80, 20], &[90]]);
     /// let paid = Triangle::from_rows(&[&[600, 400], &[660]]);
-    /// let costs = TriangleSet { m: 2, counts, paid, incurred: None }.claim_costs()?;
+    /// let costs = TriangleSet { m: 2, line: 0, counts, paid, incurred: None }.claim_costs()?;
     /// assert_eq!((costs.mu, costs.factors), (10.0, vec![1_000.0 / 600.0]));
     /// let ratio = Inflation::Ratio(1_100.0 / 112.0 / 10.0);
     /// assert_eq!(costs.inflations, [Inflation::BaseYear, ratio]);
@@ -66,7 +71,7 @@ impl TriangleSet {
     /// ```
     ///
     /// # Errors
-    /// Refuses with 1, 5 and 9 to 11.
+    /// Refuses with 1, 3, 5 and 9 to 11.
     pub fn claim_costs(&self) -> Result<ClaimCosts, Refusal> {
         claim_costs(&self.to_file()?, self.m)
     }

@@ -64,6 +64,8 @@ impl TryFrom<u64> for Basis {
 /// The forecast of a file by accident year and delay.
 #[derive(Clone, Debug, PartialEq, Eq)]
 pub struct Forecast {
+    /// The set's line of cover.
+    pub line: u64,
     m: usize,
     entries: Vec<i64>,
     /// What [`Method::Idcl`] leaves over, year 1 first: zero but for a year whose paid reserve is
@@ -72,15 +74,16 @@ pub struct Forecast {
 }
 
 impl Forecast {
-    /// What a call writes of m years: the entries and the leftovers.
+    /// What a call writes of m years: the line, the entries and the leftovers.
     pub(crate) fn written(
         m: usize,
-        call: impl FnOnce(&mut [i64], &mut [i64; 20]) -> u64,
+        call: impl FnOnce(&mut u64, &mut [i64], &mut [i64; 20]) -> u64,
     ) -> Result<Forecast, Refusal> {
-        let (mut entries, mut leftovers) = (vec![0; 1_560], [0; 20]);
-        Refusal::of(call(&mut entries, &mut leftovers))?;
+        let (mut line, mut entries, mut leftovers) = (0, vec![0; 1_560], [0; 20]);
+        Refusal::of(call(&mut line, &mut entries, &mut leftovers))?;
         entries.truncate(2 * m * (2 * m - 1));
         Ok(Forecast {
+            line,
             m,
             entries,
             leftovers: leftovers[..m].to_vec(),
@@ -140,8 +143,8 @@ impl Forecast {
 /// Refuses with 1 to 6 and 9 to 14.
 pub fn forecast(file: &[u8], m: usize, method: Method, basis: Basis) -> Result<Forecast, Refusal> {
     let (method, basis) = (method as u64, basis as u64);
-    Forecast::written(m, |entries, leftovers| {
-        calls::forecast(file, m, method, basis, entries, leftovers)
+    Forecast::written(m, |line, entries, leftovers| {
+        calls::forecast(file, m, method, basis, line, entries, leftovers)
     })
 }
 
@@ -153,15 +156,16 @@ impl TriangleSet {
     ///
     /// let counts = Triangle::from_rows(&[&[80, 20], &[90]]);
     /// let paid = Triangle::from_rows(&[&[600, 400], &[660]]);
-    /// let set = TriangleSet { m: 2, counts, paid, incurred: None };
+    /// let set = TriangleSet { m: 2, line: 5, counts, paid, incurred: None };
     /// let forecast = set.forecast(Method::Dcl, Basis::Estimated)?;
     /// assert_eq!((forecast.rbns(2, 1), forecast.ibnr(2, 1)), (275, 165));
+    /// assert_eq!(forecast.line, 5);
     /// assert_eq!(set.forecast(Method::Bdcl, Basis::Estimated).unwrap_err().number(), 6);
     /// # Ok::<(), pardesul::Refusal>(())
     /// ```
     ///
     /// # Errors
-    /// Refuses with 1, 5, 6 and 9 to 14.
+    /// Refuses with 1, 3, 5, 6 and 9 to 14.
     pub fn forecast(&self, method: Method, basis: Basis) -> Result<Forecast, Refusal> {
         forecast(&self.to_file()?, self.m, method, basis)
     }

@@ -32,10 +32,12 @@ impl JournalTally {
         }
     }
 
-    /// The set of m accident years with these counts and payments, and without incurred.
+    /// The set of m accident years with these counts and payments, and without incurred. A journal
+    /// has no line of cover: the set is on line 0, and its `line` may be set afterwards.
     pub fn to_set(&self, m: usize) -> TriangleSet {
         TriangleSet {
             m,
+            line: 0,
             counts: Triangle::new(self.counts),
             paid: Triangle::new(self.paid),
             incurred: None,
@@ -153,16 +155,20 @@ impl Journal {
     }
 
     /// The set of this journal: reports counted and payments added up by cell, without incurred.
+    /// It is on line 0, and its `line` may be set afterwards.
     ///
     /// ```
     /// use pardesul::{Journal, Triangle};
     ///
     /// let mut journal = Journal::new();
     /// journal.report(17, 1, 1).report(18, 1, 1).pay(18, 1, 2, 400).report(19, 2, 2);
-    /// let set = journal.to_set(2)?;
+    /// let mut set = journal.to_set(2)?;
     /// assert_eq!(set.counts, Triangle::from_rows(&[&[2, 0], &[1]]));
     /// assert_eq!(set.paid, Triangle::from_rows(&[&[0, 400], &[0]]));
-    /// assert_eq!(set.incurred, None);
+    /// assert_eq!((set.line, &set.incurred), (0, &None));
+    ///
+    /// set.line = 5;
+    /// assert_eq!(set.to_file()?[3], 5);
     /// # Ok::<(), pardesul::Refusal>(())
     /// ```
     ///

@@ -7,6 +7,7 @@
 //!
 //! let set = TriangleSet {
 //!     m: 2,
+//!     line: 0,
 //!     counts: Triangle::from_rows(&[&[80, 20], &[90]]),
 //!     paid: Triangle::from_rows(&[&[600, 400], &[660]]),
 //!     incurred: None,
@@ -20,22 +21,29 @@
 //! Each share, ultimate, delay, weight, row base and cell is a quotient rounded to the nearest
 //! whole number, halves to the even one: the 337 above are 275 and 62, of 62.5.
 //!
-//! It is written to a file and read from one; a call on the file is a function of the same name:
+//! A set is of one line of cover, numbered 0 to 5, so that sets of different cover are told apart.
+//! Each record of its file carries the line, and each answer has it beside its numbers; no amount
+//! hangs on it.
+//!
+//! A set is written to a file and read from one; a call on the file is a function of the same name:
 //!
 //! ```
 //! # use pardesul::{Basis, Method, Triangle, TriangleSet};
-//! # let set = TriangleSet {
+//! # let mut set = TriangleSet {
 //! #     m: 2,
+//! #     line: 0,
 //! #     counts: Triangle::from_rows(&[&[80, 20], &[90]]),
 //! #     paid: Triangle::from_rows(&[&[600, 400], &[660]]),
 //! #     incurred: None,
 //! # };
+//! set.line = 5;
 //! let file = set.to_file()?;
 //! assert_eq!(file.len(), 96);
 //! assert_eq!(TriangleSet::read(&file, 2)?, set);
 //!
 //! let forecast = pardesul::forecast(&file, 2, Method::Dcl, Basis::Estimated)?;
 //! assert_eq!(forecast, set.forecast(Method::Dcl, Basis::Estimated)?);
+//! assert_eq!(forecast.line, 5);
 //!
 //! let refusal = TriangleSet::read(&file, 3).unwrap_err();
 //! assert_eq!(refusal.number(), 2);
@@ -83,7 +91,7 @@ mod tally;
 mod triangles;
 
 pub use back_test::{back_test, BackTest};
-pub use cash::cash_in_window;
+pub use cash::{cash_in_window, Cash};
 pub use claim_costs::{claim_costs, ClaimCosts, Inflation};
 pub use closing::respond;
 pub use dates::Date;
@@ -92,6 +100,6 @@ pub use given_delays::{check_delays, forecast_with_delays};
 pub use journal::{replay, Journal, JournalTally};
 pub use page::closing_page;
 pub use refusal::Refusal;
-pub use shares::{delays, shares, Shares};
+pub use shares::{delays, shares, Delays, Shares};
 pub use tally::Tally;
 pub use triangles::{Triangle, TriangleSet};

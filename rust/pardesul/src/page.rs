@@ -5,7 +5,8 @@ use crate::{calls, Basis, Method, Refusal, TriangleSet};
 /// The bytes of the longest page.
 const LONGEST: usize = 136 * 20;
 
-/// The closing page of a file: the forecast in columns, with the numbers that [`respond`] has.
+/// The closing page of a file: the forecast in columns, with the numbers that [`respond`] has. It
+/// is the same on every line of cover.
 ///
 /// It has 2m lines of 67 characters and a newline: a heading, the calendar years 1 to 2m - 2, and
 /// the totals. A line is a year, 4 wide, and RBNS, IBNR and their sum, 21 wide each, all
@@ -16,7 +17,7 @@ const LONGEST: usize = 136 * 20;
 ///
 /// let counts = Triangle::from_rows(&[&[25, 75], &[50]]);
 /// let paid = Triangle::from_rows(&[&[750, 250], &[750]]);
-/// let file = TriangleSet { m: 2, counts, paid, incurred: None }.to_file()?;
+/// let file = TriangleSet { m: 2, line: 0, counts, paid, incurred: None }.to_file()?;
 /// let page = closing_page(&file, 2, Method::Dcl, Basis::Estimated)?;
 /// let totals = " ALL                -8000                -3750               -11750";
 /// assert_eq!(page.lines().next_back(), Some(totals));
@@ -53,7 +54,7 @@ impl TriangleSet {
     ///
     /// let counts = Triangle::from_rows(&[&[80, 20], &[90]]);
     /// let paid = Triangle::from_rows(&[&[600, 400], &[660]]);
-    /// let set = TriangleSet { m: 2, counts, paid, incurred: None };
+    /// let set = TriangleSet { m: 2, line: 0, counts, paid, incurred: None };
     /// let page = "\
     /// YEAR                 RBNS                 IBNR                TOTAL
     ///    1                  337                  165                  502
@@ -66,7 +67,7 @@ impl TriangleSet {
     /// ```
     ///
     /// # Errors
-    /// Refuses with 1, 5, 6 and 9 to 14.
+    /// Refuses with 1, 3, 5, 6 and 9 to 14.
     pub fn closing_page(&self, method: Method, basis: Basis) -> Result<String, Refusal> {
         closing_page(&self.to_file()?, self.m, method, basis)
     }

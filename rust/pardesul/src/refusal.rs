@@ -8,8 +8,9 @@ use std::fmt;
 const MESSAGES: [&str; 20] = [
     "m is not 2 to 20",
     "the length is not that of a set",
-    "a record has a kind that the length does not allow, a cell outside the triangle, or a byte \
-     3 to 7 that is not 0",
+    "a record has a kind that the length does not allow, a cell outside the triangle, a line of \
+     cover that is above 5 or not the first record's, or a byte 4 to 7 that is not 0; or the line \
+     to be written is above 5",
     "a cell is missing or stands there more than once",
     "a value is out of range: counts 0 to 10^7, paid 0 to 10^10, incurred -10^10 to 10^10",
     "there is no such method or basis, or the method needs incurred and there is none",

@@ -84,11 +84,16 @@ impl fmt::Debug for Triangle {
     }
 }
 
-/// Counts and paid, with or without incurred, of m accident years.
+/// Counts and paid, with or without incurred, of m accident years and one line of cover.
+///
+/// The line tells sets of different cover apart. It is part of the set: each record of the set's
+/// file carries it, and each answer has it beside its numbers, none of which hangs on it.
 #[derive(Clone, Debug, PartialEq, Eq)]
 pub struct TriangleSet {
     /// The number of accident years.
     pub m: usize,
+    /// The line of cover, 0 to 5.
+    pub line: u64,
     /// Reported claims, by accident year and reporting delay.
     pub counts: Triangle,
     /// Payments, by accident year and payment delay.
@@ -104,10 +109,11 @@ impl TriangleSet {
     /// Refuses with 1 to 5.
     pub fn read(file: &[u8], m: usize) -> Result<TriangleSet, Refusal> {
         let (mut counts, mut paid, mut incurred) = ([0; 400], [0; 400], [0; 400]);
-        let mut has_incurred = false;
+        let (mut line, mut has_incurred) = (0, false);
         Refusal::of(calls::read_set(
             file,
             m,
+            &mut line,
             &mut has_incurred,
             &mut counts,
             &mut paid,
@@ -115,6 +121,7 @@ impl TriangleSet {
         ))?;
         Ok(TriangleSet {
             m,
+            line,
             counts: Triangle::new(counts),
             paid: Triangle::new(paid),
             incurred: has_incurred.then(|| Triangle::new(incurred)),
@@ -131,15 +138,16 @@ impl TriangleSet {
     }
 
     /// Writes the set's file to the front of `out`, where the bytes past it stay. Records go by
-    /// kind (counts, paid, incurred), then accident year, then delay. Values outside the cells are
-    /// not looked at.
+    /// kind (counts, paid, incurred), then accident year, then delay, and each carries the line.
+    /// Values outside the cells are not looked at.
     ///
     /// # Errors
-    /// Refuses with 1, 5 and 7.
+    /// Refuses with 1, 3, 5 and 7; with 3 where the line is above 5.
     pub fn write(&self, out: &mut [u8]) -> Result<(), Refusal> {
         let incurred = self.incurred.as_ref().map_or(&[0; 400], Triangle::values);
         Refusal::of(calls::write_set(
             self.m,
+            self.line,
             self.incurred.is_some(),
             self.counts.values(),
             self.paid.values(),
@@ -149,14 +157,15 @@ impl TriangleSet {
     }
 
     /// The set's file, its records in the order of [`TriangleSet::write`]: two sets of one m have
-    /// the same file just where their cells are the same and both have incurred or neither.
+    /// the same file just where their lines and cells are the same and both have incurred or
+    /// neither.
     ///
     /// ```
     /// use pardesul::{Triangle, TriangleSet};
     ///
     /// let counts = Triangle::from_rows(&[&[80, 20], &[90]]);
     /// let paid = Triangle::from_rows(&[&[600, 400], &[660]]);
-    /// let mut set = TriangleSet { m: 2, counts, paid, incurred: None };
+    /// let mut set = TriangleSet { m: 2, line: 0, counts, paid, incurred: None };
     /// let file = set.to_file()?;
     ///
     /// // The same records, the last one in front: read and written they are in order again.
@@ -165,13 +174,20 @@ impl TriangleSet {
     /// assert_ne!(other, file);
     /// assert_eq!(TriangleSet::read(&other, 2)?.to_file()?, file);
     ///
+    /// // The same cells on another line are another set.
+    /// set.line = 5;
+    /// assert_ne!(set.to_file()?, file);
+    /// assert_eq!(TriangleSet::read(&set.to_file()?, 2)?, set);
+    ///
     /// set.paid.set(1, 1, -1);
     /// assert_eq!(set.to_file().unwrap_err().number(), 5);
+    /// set.line = 6;
+    /// assert_eq!(set.to_file().unwrap_err().number(), 3);
     /// # Ok::<(), pardesul::Refusal>(())
     /// ```
     ///
     /// # Errors
-    /// Refuses with 1 and 5.
+    /// Refuses with 1, 3 and 5.
     pub fn to_file(&self) -> Result<Vec<u8>, Refusal> {
         let mut out = vec![0; self.file_len()];
         self.write(&mut out)?;

@@ -11,6 +11,7 @@ use std::path::Path;
 fn set_k() -> TriangleSet {
     TriangleSet {
         m: 2,
+        line: 0,
         counts: Triangle::from_rows(&[&[80, 20], &[90]]),
         paid: Triangle::from_rows(&[&[600, 400], &[660]]),
         incurred: None,

@@ -31,11 +31,51 @@ fn sorted(input: &[u8]) -> (&[u8], Vec<&[u8]>) {
     (line, records)
 }
 
+/// What the example writes of the shipped triangles, with these words behind the folder.
+fn made(words: &[&str]) -> Result<Vec<u8>, String> {
+    let folder = examples().join("source_002");
+    let words = [&[folder.to_str().unwrap()], words].concat();
+    csv_set::made(&words).map_err(|error| error.to_string())
+}
+
 #[test]
 fn shipped_triangles_make_the_shipped_input() {
-    let made = csv_set::closing_input(&examples().join("source_002"), "0", "1").unwrap();
     let shipped = read(examples().join("source_002.input")).unwrap();
-    assert_eq!(sorted(&made), sorted(&shipped));
+    assert_eq!(sorted(&made(&["0", "1"]).unwrap()), sorted(&shipped));
+}
+
+/// The number of words says whether there is a line of cover among them, a method and a basis, or
+/// both.
+#[test]
+fn a_line_of_cover() {
+    let mut set = csv_set::read_folder(&examples().join("source_002")).unwrap();
+    assert_eq!(made(&[]).unwrap(), set.to_file().unwrap());
+    for line in 0..=5 {
+        set.line = line;
+        let (file, word) = (set.to_file().unwrap(), line.to_string());
+        assert!(file.chunks(16).all(|record| u64::from(record[3]) == line));
+        assert_eq!(made(&[&word]).unwrap(), file);
+        let input = [b"10 2 1\n", &file[..]].concat();
+        assert_eq!(made(&["2", "1", &word]).unwrap(), input);
+    }
+    assert_eq!(made(&["2", "1"]).unwrap(), made(&["2", "1", "0"]).unwrap());
+}
+
+#[test]
+fn wrong_words_are_named() {
+    let said = |words: &[&str]| made(words).unwrap_err();
+    for line in ["6", "256", "18446744073709551615"] {
+        assert!(said(&[line]).starts_with("refused 3: "), "{line}");
+        assert!(said(&["0", "1", line]).starts_with("refused 3: "), "{line}");
+    }
+    for word in ["five", "", "-1", "18446744073709551616"] {
+        let wanted = format!("{word}: ");
+        assert!(said(&[word]).starts_with(&wanted), "{word}");
+        assert!(said(&["0", "1", word]).starts_with(&wanted), "{word}");
+    }
+    assert!(said(&["0", "1", "5", "5"]).starts_with("usage: csv_set "));
+    let error = csv_set::made(&[]).unwrap_err().to_string();
+    assert!(error.starts_with("usage: csv_set "));
 }
 
 #[test]
@@ -47,6 +87,7 @@ fn incurred_is_read_where_it_is_there() {
     ];
     let set = TriangleSet {
         m: 2,
+        line: 0,
         counts: Triangle::from_rows(&[&[80, 20], &[90]]),
         paid: Triangle::from_rows(&[&[600, 400], &[660]]),
         incurred: Some(Triangle::from_rows(&[&[900, 100], &[1_080]])),

@@ -96,9 +96,9 @@ fn short_arrays_are_warned_of() {
         let program = own(&format!("places_{places}.c"));
         let text = format!(
             "#include \"pardesul.h\"\n\
-             uint64_t call(const uint8_t *file);\n\
-             uint64_t call(const uint8_t *file) {{\n\
-             int64_t p[{places}]; return pardesul_delays(file, 0, 2, p); }}\n"
+             uint64_t call(const uint8_t *file, uint64_t *line);\n\
+             uint64_t call(const uint8_t *file, uint64_t *line) {{\n\
+             int64_t p[{places}]; return pardesul_delays(file, 0, 2, line, p); }}\n"
         );
         write(&program, text).unwrap();
         let more = [Path::new("-c"), Path::new("-o"), Path::new("/dev/null")];

@@ -20,21 +20,36 @@ fn file(name: &str, text: &str) -> PathBuf {
     path
 }
 
-/// The shipped journal is one of set K without incurred.
+/// What the example writes of the shipped journal, with these words behind the file.
+fn made(words: &[&str]) -> Result<Vec<u8>, String> {
+    let file = examples().join("journal.csv");
+    let words = [&[file.to_str().unwrap()], words].concat();
+    journal_set::made(&words).map_err(|error| error.to_string())
+}
+
+/// The shipped journal is one of set K without incurred, of which line of cover the words say.
 #[test]
 fn shipped_journal_makes_the_shipped_forecast() {
-    let path = examples().join("journal.csv");
-    let set = TriangleSet {
+    let mut set = TriangleSet {
         m: 2,
+        line: 0,
         counts: Triangle::from_rows(&[&[80, 20], &[90]]),
         paid: Triangle::from_rows(&[&[600, 400], &[660]]),
         incurred: None,
     };
+    let path = examples().join("journal.csv");
     assert_eq!(journal_set::read_set(&path, "2").unwrap(), set);
-    let input = journal_set::closing_input(&path, "2", "0", "1").unwrap();
-    assert_eq!(input[6..], set.to_file().unwrap());
+    assert_eq!(made(&["2"]).unwrap(), set.to_file().unwrap());
     let shipped = read(examples().join("set_k.output")).unwrap();
-    assert_eq!(respond(&input), shipped);
+    for line in 0..=5 {
+        set.line = line;
+        let (file, word) = (set.to_file().unwrap(), line.to_string());
+        assert_eq!(made(&["2", &word]).unwrap(), file);
+        let input = made(&["2", "0", "1", &word]).unwrap();
+        assert_eq!(input, [b"2 0 1\n", &file[..]].concat());
+        assert_eq!(respond(&input), shipped);
+    }
+    assert_eq!(made(&["2", "0", "1"]), made(&["2", "0", "1", "0"]));
 }
 
 #[test]
@@ -102,4 +117,11 @@ fn wrong_words_are_named() {
     assert!(said(&path, "two").starts_with("'two': invalid digit"));
     assert!(said(&path, "21").starts_with("refused 1: "));
     assert!(said(&examples().join("none.csv"), "2").contains("none.csv: "));
+    let said = |words: &[&str]| made(words).unwrap_err();
+    assert!(said(&["2", "6"]).starts_with("refused 3: "));
+    assert!(said(&["2", "0", "1", "256"]).starts_with("refused 3: "));
+    assert!(said(&["2", "five"]).starts_with("five: invalid digit"));
+    assert!(said(&["2", "0", "1", "-1"]).starts_with("-1: invalid digit"));
+    assert!(said(&[]).starts_with("usage: journal_set "));
+    assert!(said(&["2", "0", "1", "5", "5"]).starts_with("usage: journal_set "));
 }

@@ -19,6 +19,7 @@ fn root() -> PathBuf {
 fn set(counts: &[&[i64]], paid: &[&[i64]]) -> TriangleSet {
     TriangleSet {
         m: counts.len(),
+        line: 0,
         counts: Triangle::from_rows(counts),
         paid: Triangle::from_rows(paid),
         incurred: None,
@@ -52,7 +53,7 @@ fn shipped_delays() {
     let folder = root().join("examples/source_002");
     let set = csv_set::read_folder(&folder).unwrap();
     let delays = read_delays(&folder.join("delays.csv")).unwrap();
-    assert_eq!(delays, set.delays().unwrap());
+    assert_eq!(delays, set.delays().unwrap().p);
     assert_eq!(first_off(&set, &delays), Ok(None));
     let table = table(&set, &delays);
     assert_eq!(table.len(), 12);

@@ -4,9 +4,10 @@ use crate::big::Big;
 use crate::forecast::{entry, forecast_set, question_6};
 use crate::records::{cells, place, read_set, Refusal, Set};
 
-/// The number of cells compared, and the sums of absolute errors.
+/// The line of the set, the number of cells compared, and the sums of absolute errors.
 #[derive(Clone, Debug, PartialEq, Eq)]
 pub struct BackTest {
+    pub line: u64,
     pub cells: u64,
     pub cellwise: u64,
     pub yearwise: u64,
@@ -45,6 +46,7 @@ pub fn back_test(
     let yearwise: Big = years.map(|year| year_error(year).abs()).sum();
     let overall: Big = compared.iter().map(|&(i, j)| error(i, j)).sum();
     Ok(BackTest {
+        line: set.line,
         cells: compared.len() as u64,
         cellwise: unsigned_64(&cellwise),
         yearwise: unsigned_64(&yearwise),
@@ -52,9 +54,9 @@ pub fn back_test(
     })
 }
 
-/// The set of s years that was known c years earlier.
+/// The set of s years that was known c years earlier, on the same line.
 pub fn cut_set(set: &Set, s: usize) -> Set {
-    let mut cut = Set::empty(s, set.has_incurred);
+    let mut cut = Set::empty(s, set.has_incurred).on_line(set.line);
     for kind in 0..set.kinds() {
         for (i, j) in cells(s) {
             cut.triangle_mut(kind)[place(i, j)] = set.triangle(kind)[place(i, j)];

@@ -23,8 +23,16 @@ impl Window {
     }
 }
 
-/// RBNS + IBNR of each forecast year, year 1 first.
+/// What falls due in a window, with the line of the set.
+#[derive(Clone, Copy, Debug, PartialEq, Eq)]
+pub struct Cash {
+    pub line: u64,
+    pub amount: i64,
+}
+
+/// RBNS + IBNR of each forecast year, year 1 first, with the line of the set.
 pub struct ForecastYears {
+    pub line: u64,
     totals: Vec<Big>,
 }
 
@@ -35,8 +43,12 @@ pub fn cash_in_window(
     method: u64,
     basis: u64,
     window: &Window,
-) -> Result<i64, Refusal> {
-    forecast_years(file, m, method, basis)?.cash(window)
+) -> Result<Cash, Refusal> {
+    let years = forecast_years(file, m, method, basis)?;
+    Ok(Cash {
+        line: years.line,
+        amount: years.cash(window)?,
+    })
 }
 
 /// The forecast years of a file: questions 1 to 6 and 9 to 14.
@@ -50,15 +62,19 @@ pub fn forecast_years(
     question_6(&set, method, basis)?;
     let forecast = forecast_set(&set, method, basis)?;
     let tally = Tally::of_entries(&forecast.entries, set.m);
-    Ok(ForecastYears::of(&tally, set.m))
+    Ok(ForecastYears {
+        line: set.line,
+        ..ForecastYears::of(&tally, set.m)
+    })
 }
 
 impl ForecastYears {
-    /// Those of the tally of m accident years: 2m - 2.
+    /// Those of the tally of m accident years: 2m - 2. A tally has no line; they are on line 0.
     pub fn of(tally: &Tally, m: usize) -> ForecastYears {
         let sums = tally.rbns.iter().zip(&tally.ibnr);
         let totals = sums.map(|(&rbns, &ibnr)| Big::from(rbns) + Big::from(ibnr));
         ForecastYears {
+            line: 0,
             totals: totals.take(2 * m - 2).collect(),
         }
     }

@@ -12,9 +12,10 @@ pub enum Inflation {
     Ratio(f64),
 }
 
-/// Document 01's claim-cost card.
+/// Document 01's claim-cost card, with the line of the set.
 #[derive(Clone, Debug, PartialEq)]
 pub struct ClaimCosts {
+    pub line: u64,
     pub mu: f64,
     pub factors: [f64; 20],
     pub inflations: [Inflation; 20],
@@ -41,6 +42,7 @@ pub fn claim_costs(file: &[u8], m: u64) -> Result<ClaimCosts, Refusal> {
         }
     }
     Ok(ClaimCosts {
+        line: set.line,
         mu,
         factors,
         inflations,

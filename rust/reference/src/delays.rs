@@ -31,9 +31,19 @@ pub fn in_range(delay: &Big) -> bool {
     delay.abs() <= Big::from(8_000_000_000i64)
 }
 
+/// What the call for delays hands back: the line of the set, and p(l) at place l.
+#[derive(Clone, Debug, PartialEq, Eq)]
+pub struct Delays {
+    pub line: u64,
+    pub p: [i64; 20],
+}
+
 /// Questions 1 to 5 and 9 to 12, and the delays.
-pub fn delays(file: &[u8], m: u64) -> Result<[i64; 20], Refusal> {
+pub fn delays(file: &[u8], m: u64) -> Result<Delays, Refusal> {
     let set = read_set(file, m)?;
     let p = solved(&estimates(&set)?)?;
-    Ok(list(&p))
+    Ok(Delays {
+        line: set.line,
+        p: list(&p),
+    })
 }

@@ -3,14 +3,14 @@
 
 use crate::back_test::{back_test, BackTest};
 use crate::calendar::closing;
-use crate::delays::delays;
+use crate::delays::{delays, Delays};
 use crate::forecast::{entry, entry_count, forecast, Forecast};
 use crate::generate::file;
 use crate::records::{place, Refusal, Set};
 use crate::shares::{shares, Shares};
 use Number::{Cells, Cellwise, Ibnr, Overall, Rbns, Together, Yearwise, B, N, P, Q, U};
 
-/// The set of triangles by rows.
+/// The set of triangles by rows, on line 0.
 pub fn set(counts: &[&[i64]], paid: &[&[i64]], incurred: Option<&[&[i64]]>) -> Set {
     let mut set = Set::empty(counts.len(), incurred.is_some());
     let triangles = [counts, paid, incurred.unwrap_or(&[])];
@@ -117,7 +117,7 @@ pub struct Example {
 #[derive(Debug)]
 pub enum Answer {
     Shares(Box<Shares>),
-    Delays([i64; 20]),
+    Delays(Delays),
     Forecast(Forecast),
     BackTest(BackTest),
     Text(Vec<u8>),
@@ -521,7 +521,7 @@ impl Example {
             (Answer::Shares(of), N(i)) => of.n[i - 1],
             (Answer::Shares(of), Q(j)) => of.q[j],
             (Answer::Shares(of), U(i)) => of.u[i - 1],
-            (Answer::Delays(p), P(l)) => p[l],
+            (Answer::Delays(of), P(l)) => of.p[l],
             (Answer::Forecast(of), Rbns(i, j)) => of.entries[entry(m, i, j)],
             (Answer::Forecast(of), Ibnr(i, j)) => of.entries[entry(m, i, j) + 1],
             (Answer::Forecast(of), Together(i, j)) => {

@@ -8,9 +8,10 @@ use crate::rounding::{r, scale};
 use crate::row_bases::row_bases;
 use crate::shares::{estimates, list, signed_64, Estimates};
 
-/// The 2m(2m-1) output entries, and the leftovers.
+/// The line of the set, the 2m(2m-1) output entries, and the leftovers.
 #[derive(Clone, Debug, PartialEq, Eq)]
 pub struct Forecast {
+    pub line: u64,
     pub entries: Vec<i64>,
     pub leftovers: [i64; 20],
 }
@@ -92,6 +93,7 @@ pub fn forecast_by_delays(
         }
     }
     Ok(Forecast {
+        line: set.line,
         entries,
         leftovers: list(&bases.leftovers),
     })

@@ -7,10 +7,11 @@ use crate::records::{read_set, Refusal, Set};
 use crate::rounding::scale;
 use crate::shares::{estimates, Estimates};
 
-/// Questions 1 to 5, 9 to 11, and 20.
-pub fn check_delays(file: &[u8], m: u64, delays: &[i64]) -> Result<(), Refusal> {
-    let set = Estimated::of(read_set(file, m)?)?;
-    set.given(delays).map(|_| ())
+/// Questions 1 to 5, 9 to 11, and 20, and the line of the set.
+pub fn check_delays(file: &[u8], m: u64, delays: &[i64]) -> Result<u64, Refusal> {
+    let estimated = Estimated::of(read_set(file, m)?)?;
+    estimated.given(delays)?;
+    Ok(estimated.set.line)
 }
 
 /// The forecast of a file by given delays, into an output of `out_len` entries: questions 1 to 7, 9

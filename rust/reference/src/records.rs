@@ -1,4 +1,5 @@
-//! 01, Triangle records: sets, their reader and their writer, whose order is that of 02, Job 2.
+//! 01, Triangle records: sets, their reader and their writer, whose order is that of 02, Job 2, and
+//! the line of cover in each record, 02, Job 7.
 
 use std::ops::RangeInclusive;
 
@@ -8,10 +9,11 @@ pub type Refusal = u64;
 /// A triangle by value: cell (i,j) at 20 (i-1) + j.
 pub type Values = [i64; 400];
 
-/// Counts and paid, or all three, with zeros outside the cells.
+/// Counts and paid, or all three, of a line of cover, with zeros outside the cells.
 #[derive(Clone, Debug, PartialEq, Eq)]
 pub struct Set {
     pub m: usize,
+    pub line: u64,
     pub has_incurred: bool,
     pub counts: Values,
     pub paid: Values,
@@ -19,13 +21,23 @@ pub struct Set {
 }
 
 impl Set {
+    /// A set of zeros on line 0.
     pub fn empty(m: usize, has_incurred: bool) -> Set {
         Set {
             m,
+            line: 0,
             has_incurred,
             counts: [0; 400],
             paid: [0; 400],
             incurred: [0; 400],
+        }
+    }
+
+    /// The same cells on another line.
+    pub fn on_line(&self, line: u64) -> Set {
+        Set {
+            line,
+            ..self.clone()
         }
     }
 
@@ -65,6 +77,11 @@ pub fn is_cell(m: usize, i: usize, j: usize) -> bool {
 /// Every cell, by accident year, then delay.
 pub fn cells(m: usize) -> impl Iterator<Item = (usize, usize)> {
     (1..=m).flat_map(move |i| (0..=m - i).map(move |j| (i, j)))
+}
+
+/// Whether there is such a line of cover: 0 to 5.
+pub fn is_line(line: u64) -> bool {
+    line <= 5
 }
 
 /// The values that a kind may have.
@@ -108,28 +125,32 @@ struct Record {
     kind: u8,
     i: usize,
     j: usize,
-    padding: [u8; 5],
+    line: u64,
+    padding: [u8; 4],
     value: i64,
 }
 
 impl Record {
-    /// Kind, i and j in a byte each, five bytes of padding, and the value in eight.
+    /// Kind, i, j and the line in a byte each, four bytes of padding, and the value in eight.
     fn read(bytes: &[u8]) -> Record {
         Record {
             kind: bytes[0],
             i: usize::from(bytes[1]),
             j: usize::from(bytes[2]),
-            padding: bytes[3..8].try_into().unwrap(),
+            line: u64::from(bytes[3]),
+            padding: bytes[4..8].try_into().unwrap(),
             value: i64::from_le_bytes(bytes[8..16].try_into().unwrap()),
         }
     }
 
-    fn write(kind: u8, i: usize, j: usize, value: i64) -> [u8; 16] {
+    fn write(&self) -> [u8; 16] {
         let mut bytes = [0; 16];
-        bytes[0] = kind;
-        bytes[1] = i as u8;
-        bytes[2] = j as u8;
-        bytes[8..16].copy_from_slice(&value.to_le_bytes());
+        bytes[0] = self.kind;
+        bytes[1] = self.i as u8;
+        bytes[2] = self.j as u8;
+        bytes[3] = self.line as u8;
+        bytes[4..8].copy_from_slice(&self.padding);
+        bytes[8..16].copy_from_slice(&self.value.to_le_bytes());
         bytes
     }
 }
@@ -144,10 +165,13 @@ pub fn read_set(file: &[u8], m: u64) -> Result<Set, Refusal> {
     }
     let records: Vec<Record> = file.chunks_exact(16).map(Record::read).collect();
     // Question 3.
+    let line = records[0].line;
     let well_formed = |record: &Record| {
         record.kind < kinds(has_incurred)
             && is_cell(m, record.i, record.j)
-            && record.padding == [0; 5]
+            && is_line(record.line)
+            && record.line == line
+            && record.padding == [0; 4]
     };
     if !records.iter().all(well_formed) {
         return Err(3);
@@ -168,17 +192,19 @@ pub fn read_set(file: &[u8], m: u64) -> Result<Set, Refusal> {
     {
         return Err(5);
     }
-    let mut set = Set::empty(m, has_incurred);
+    let mut set = Set::empty(m, has_incurred).on_line(line);
     for record in &records {
         set.triangle_mut(record.kind)[place(record.i, record.j)] = record.value;
     }
     Ok(set)
 }
 
-/// Questions 1, 5 and 7, and the set written by kind, then accident year, then delay, each
-/// ascending; bytes past it, and all on a refusal, stay. Question 5 is put to the cells alone.
+/// Questions 1, 3 (of the line), 5 and 7, and the set written by kind, then accident year, then
+/// delay, each ascending; bytes past it, and all on a refusal, stay. Question 5 is put to the cells
+/// alone.
 pub fn write_set(
     m: u64,
+    line: u64,
     has_incurred: bool,
     counts: &Values,
     paid: &Values,
@@ -186,6 +212,10 @@ pub fn write_set(
     out: &mut [u8],
 ) -> Result<(), Refusal> {
     let m = question_1(m)?;
+    // Question 3.
+    if !is_line(line) {
+        return Err(3);
+    }
     let triangles = [counts, paid, incurred];
     let mut bytes = Vec::new();
     for kind in 0..kinds(has_incurred) {
@@ -194,7 +224,15 @@ pub fn write_set(
             if !range(kind).contains(&value) {
                 return Err(5);
             }
-            bytes.extend(Record::write(kind, i, j, value));
+            let record = Record {
+                kind,
+                i,
+                j,
+                line,
+                padding: [0; 4],
+                value,
+            };
+            bytes.extend(record.write());
         }
     }
     // Question 7.

@@ -145,9 +145,10 @@ pub fn incurred_ultimates(set: &Set) -> Result<Vec<Big>, Refusal> {
     Ok(incurred.ultimates(&g))
 }
 
-/// What the call for shares and ultimates hands back; g is paid's.
+/// What the call for shares and ultimates hands back, with the line of the set; g is paid's.
 #[derive(Clone, Debug, PartialEq, Eq)]
 pub struct Shares {
+    pub line: u64,
     pub b: [i64; 20],
     pub n: [i64; 20],
     pub q: [i64; 20],
@@ -160,6 +161,7 @@ pub fn shares(file: &[u8], m: u64) -> Result<Shares, Refusal> {
     let set = read_set(file, m)?;
     let estimates = estimates(&set)?;
     Ok(Shares {
+        line: set.line,
         b: list(&estimates.b),
         n: list(&estimates.n),
         q: list(&estimates.q),

@@ -171,6 +171,23 @@ fn dates_come_last() {
     assert_eq!(cash_in_window(&k, 2, 0, 1, &none), Err(19));
 }
 
+/// The amount comes with the line of the set.
+#[test]
+fn line_of_a_window() {
+    let (valuation, end) = (date(2023, 12, 31), date(2025, 12, 31));
+    let whole = Window {
+        valuation,
+        start: valuation,
+        end,
+    };
+    for line in 0..=5 {
+        let k = file(&set_k().on_line(line));
+        let wanted = Cash { line, amount: 571 };
+        assert_eq!(cash_in_window(&k, 2, 0, 1, &whole), Ok(wanted));
+        assert_eq!(forecast_years(&k, 2, 0, 1).unwrap().line, line);
+    }
+}
+
 /// Windows made to be in the forecast years are, and no others; a year's has its sum, all of them
 /// the total that `closing` prints, and two that follow on add up.
 #[test]

@@ -113,7 +113,7 @@ fn reported_shares_are_rounded() {
     assert_eq!(s(1), [333_333_333; 3]);
     // 2 × 666666667 / 3 and 666666667 / 3.
     assert_eq!(s(2), [444_444_445, 222_222_222]);
-    let p = delays(&file(&set), 3).unwrap();
+    let p = delays(&file(&set), 3).unwrap().p;
     assert_eq!(p[1] + p[2], -1_195_945_943);
     // 10^10 × 333333333 × -1195945943 / 10^18 = -3986486472.68; with thirds it would be ..477.
     let forecast = forecast(&file(&set), 3, 0, 0, 30).unwrap();

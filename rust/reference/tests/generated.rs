@@ -1,31 +1,69 @@
 //! Properties of many generated sets, and what the generator reaches.
 
 use reference::forecast::{entry, entry_count};
-use reference::generate::{any_set, case, file, Random};
+use reference::generate::{any_set, case, file, Case, Random};
 use reference::*;
 use std::collections::BTreeMap;
 
 const SEEDS: u64 = 6_000;
+
+/// What is wrong with the line of a file in which nothing else is wrong: a record that stands apart
+/// from all others, all of them on a line that there is not, or a spare byte.
+fn wrong_line(case: &Case) -> Option<&'static str> {
+    let mut mended = case.file.clone();
+    let records = mended.chunks_exact_mut(16);
+    records.for_each(|record| record[3..8].fill(0));
+    if read_set(&case.file, case.m) != Err(3) || read_set(&mended, case.m).is_err() {
+        return None;
+    }
+    let column = |byte: usize| -> Vec<u8> {
+        let records = case.file.chunks_exact(16);
+        records.map(|record| record[byte]).collect()
+    };
+    for (byte, name) in [(4, "byte 4"), (5, "byte 5"), (6, "byte 6"), (7, "byte 7")] {
+        if column(byte).iter().any(|&value| value != 0) {
+            return Some(name);
+        }
+    }
+    let lines = column(3);
+    let [first, middle @ .., last] = &lines[..] else {
+        panic!("a file without records");
+    };
+    let same = |list: &[u8], line: &u8| list.iter().all(|each| each == line);
+    match first == last {
+        true if same(middle, first) => Some("line above 5"),
+        true => Some("middle record"),
+        false if same(middle, last) => Some("first record"),
+        false if same(middle, first) => Some("last record"),
+        false => Some("several records"),
+    }
+}
 
 #[test]
 fn every_refusal_and_every_kind_of_acceptance_occurs() {
     let mut refused = BTreeMap::new();
     let mut accepted = BTreeMap::new();
     let mut sizes = BTreeMap::new();
+    let (mut lines, mut wrong_lines) = (BTreeMap::new(), BTreeMap::new());
     for seed in 0..SEEDS {
         let case = case(seed);
         match forecast(&case.file, case.m, case.method, case.basis, case.out_len) {
-            Ok(_) => {
+            Ok(found) => {
                 *accepted.entry((case.method, case.basis)).or_insert(0) += 1;
                 *sizes.entry(case.m).or_insert(0) += 1;
+                *lines.entry(found.line).or_insert(0) += 1;
             }
             Err(refusal) => *refused.entry(refusal).or_insert(0) += 1,
+        }
+        if let Some(fault) = wrong_line(&case) {
+            *wrong_lines.entry(fault).or_insert(0) += 1;
         }
         if back_test(&case.file, case.m, case.cut, case.method, case.basis) == Err(8) {
             *refused.entry(8).or_insert(0) += 1;
         }
     }
     println!("refused {refused:?}\naccepted {accepted:?}\nby m {sizes:?}");
+    println!("by line {lines:?}\nwrong lines {wrong_lines:?}");
     assert!(
         (1..=14).all(|refusal| refused.get(&refusal) > Some(&50)),
         "{refused:?}"
@@ -36,6 +74,22 @@ fn every_refusal_and_every_kind_of_acceptance_occurs() {
         }
     }
     assert!((2..=20).all(|m| sizes.get(&m) > Some(&10)), "{sizes:?}");
+    assert!(
+        (0..=5).all(|line| lines.get(&line) > Some(&300)),
+        "{lines:?}"
+    );
+    for fault in [
+        "first record",
+        "middle record",
+        "last record",
+        "line above 5",
+        "byte 4",
+        "byte 5",
+        "byte 6",
+        "byte 7",
+    ] {
+        assert!(wrong_lines.get(fault) > Some(&10), "{wrong_lines:?}");
+    }
 }
 
 /// Delays above 10^9 and below -10^9 in one accepted set, for small and large m; delays at the
@@ -50,7 +104,7 @@ fn special_sets_occur() {
         let Ok(found) = forecast(&case.file, case.m, case.method, case.basis, usize::MAX) else {
             continue;
         };
-        let p = delays(&case.file, case.m).unwrap();
+        let p = delays(&case.file, case.m).unwrap().p;
         let swings = p.iter().any(|&p| p > 1_000_000_000) && p.iter().any(|&p| p < -1_000_000_000);
         wild += usize::from(swings);
         wild_large += usize::from(swings && case.m >= 12);

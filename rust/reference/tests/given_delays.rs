@@ -38,7 +38,7 @@ fn delays_of_k() {
 #[test]
 fn as_many_as_years() {
     for set in [set_k(), set_of_three_solutions()] {
-        let p = delays(&file(&set), 2).unwrap();
+        let p = delays(&file(&set), 2).unwrap().p;
         for number in 0..=20 {
             let wanted = if number == 2 { 0 } else { 20 };
             assert_eq!(refusal(&set, &p[..number]), wanted, "{number}");
@@ -84,7 +84,7 @@ fn one_past_the_range() {
 fn extreme_numbers() {
     let far = [-LIMIT - 1, LIMIT + 1, i64::MIN, i64::MIN + 1, i64::MAX];
     for set in [set_k(), set_of_three_solutions()] {
-        let p = delays(&file(&set), 2).unwrap();
+        let p = delays(&file(&set), 2).unwrap().p;
         for value in far.into_iter().chain([-LIMIT, LIMIT]) {
             assert_eq!(refusal(&set, &[value, p[1]]), 20, "{value}");
             assert_eq!(refusal(&set, &[p[0], value]), 20, "{value}");
@@ -109,7 +109,7 @@ fn every_solution() {
             assert_eq!(refusal(&set, &p), wanted, "{p:?}");
         }
     }
-    assert_eq!(delays(&file(&set), 2).unwrap()[..2], solutions[0]);
+    assert_eq!(delays(&file(&set), 2).unwrap().p[..2], solutions[0]);
     let found = Estimated::of(set.clone()).ok().unwrap().estimates;
     let big = |list: &[i64]| -> Vec<Big> { list.iter().copied().map(Big::from).collect() };
     assert_eq!(next_values(&found, &[]), big(&[2_500_002, 2_500_003]));
@@ -201,7 +201,7 @@ fn later_questions() {
     for edge in EDGES {
         let set = edge.rows.set();
         let file = file(&set);
-        let Ok(p) = delays(&file, 2) else {
+        let Ok(Delays { p, .. }) = delays(&file, 2) else {
             assert_eq!(edge.refused, [12; 3]);
             continue;
         };
@@ -231,7 +231,7 @@ fn generated() {
     for seed in 0..3_000 {
         let case = case(seed);
         let (m, method, basis, room) = (case.m, case.method, case.basis, case.out_len);
-        let solved = delays(&case.file, m);
+        let solved = delays(&case.file, m).map(|solved| solved.line);
         let plain = forecast(&case.file, m, method, basis, room);
         let estimated = read_set(&case.file, m).and_then(Estimated::of);
         let asked = set_to_forecast(&case.file, m, method, basis, room).and_then(Estimated::of);
@@ -242,7 +242,7 @@ fn generated() {
         for (given, list) in given_delays(seed, &case.file, m) {
             let text = format!("seed {seed}, {given:?}, {list:?}");
             let answer = match &estimated {
-                Ok(of) => of.given(&list).map(|_| ()),
+                Ok(of) => of.given(&list).map(|_| of.set.line),
                 Err(refusal) => Err(*refusal),
             };
             let found = match &asked {
@@ -260,7 +260,7 @@ fn generated() {
             assert!(given.can_stand() || answer.is_err(), "{text}");
             match given {
                 Given::Solved => {
-                    let wanted = solved.map(|_| ()).map_err(|n| if n == 12 { 20 } else { n });
+                    let wanted = solved.map_err(|n| if n == 12 { 20 } else { n });
                     assert_eq!(answer, wanted, "{text}");
                     if solved.is_ok() {
                         assert_eq!(found, plain, "{text}");

@@ -405,7 +405,7 @@ fn tallies_grow_by_one_transaction() {
         }
         let mut file = vec![0; 16 * m * (m + 1)];
         let (counts, paid) = (&before.counts, &before.paid);
-        write_set(years, false, counts, paid, &[0; 400], &mut file).unwrap();
+        write_set(years, 0, false, counts, paid, &[0; 400], &mut file).unwrap();
         let read = read_set(&file, years).unwrap();
         assert_eq!((&read.counts, &read.paid), (counts, paid));
     }

@@ -2,29 +2,37 @@
 
 use reference::examples::{set_k, set_k_without_incurred};
 use reference::generate::{any_set, file, shuffled_file, writer_case, Random};
-use reference::records::{cells, file_length, place};
+use reference::records::{cells, file_length, is_line, place};
 use reference::*;
 
 #[test]
 fn bytes_of_a_file() {
-    let record = |kind: u8, i: u8, j: u8, value: i64| {
-        let mut record = vec![kind, i, j, 0, 0, 0, 0, 0];
-        record.extend(value.to_le_bytes());
-        record
-    };
-    let expected = [
-        record(0, 1, 0, 80),
-        record(0, 1, 1, 20),
-        record(0, 2, 0, 90),
-        record(1, 1, 0, 600),
-        record(1, 1, 1, 400),
-        record(1, 2, 0, 660),
-        record(2, 1, 0, 900),
-        record(2, 1, 1, 100),
-        record(2, 2, 0, 1080),
-    ];
-    assert_eq!(file(&set_k()), expected.concat());
-    assert_eq!(file(&set_k_without_incurred()), expected[..6].concat());
+    for line in 0..=5 {
+        let record = |kind: u8, i: u8, j: u8, value: i64| {
+            let mut record = vec![kind, i, j, line, 0, 0, 0, 0];
+            record.extend(value.to_le_bytes());
+            record
+        };
+        let expected = [
+            record(0, 1, 0, 80),
+            record(0, 1, 1, 20),
+            record(0, 2, 0, 90),
+            record(1, 1, 0, 600),
+            record(1, 1, 1, 400),
+            record(1, 2, 0, 660),
+            record(2, 1, 0, 900),
+            record(2, 1, 1, 100),
+            record(2, 2, 0, 1080),
+        ];
+        let line = u64::from(line);
+        let (long, short) = (
+            set_k().on_line(line),
+            set_k_without_incurred().on_line(line),
+        );
+        assert_eq!(file(&long), expected.concat());
+        assert_eq!(file(&short), expected[..6].concat());
+    }
+    assert_eq!(file(&set_k()), file(&set_k().on_line(0)));
 }
 
 /// Kind, accident year and delay, of a record.
@@ -62,6 +70,25 @@ fn one_file_for_one_set() {
             .map(|(one, _)| key(one))
             .collect();
         assert_eq!(differing, [[kind, i as u8, j as u8]]);
+    }
+}
+
+/// What is written on a line reads back on it, and the files of two lines differ in byte 3 of each
+/// record and nowhere else.
+#[test]
+fn one_file_for_each_line() {
+    let mut random = Random::new(6);
+    for _ in 0..200 {
+        let set = any_set(&mut random);
+        let files = [0, 1, 2, 3, 4, 5].map(|line| file(&set.on_line(line)));
+        for (bytes, line) in files.iter().zip(0u8..) {
+            let on_line = set.on_line(u64::from(line));
+            assert_eq!(read_set(bytes, set.m as u64), Ok(on_line));
+            for (at, (byte, of_0)) in bytes.iter().zip(&files[0]).enumerate() {
+                let wanted = if at % 16 == 3 { line } else { *of_0 };
+                assert_eq!(*byte, wanted, "line {line}, byte {at}");
+            }
+        }
     }
 }
 
@@ -126,13 +153,14 @@ fn order_changes_no_answer() {
 /// are not read.
 #[test]
 fn generated_writes() {
-    let mut outcomes = [0; 8];
+    let (mut outcomes, mut lines) = ([0; 8], [0; 6]);
     for seed in 0..2_000 {
         let case = writer_case(seed);
         let before: Vec<u8> = (0..case.out_len).map(|at| at as u8 ^ 0x5a).collect();
         let mut out = before.clone();
         let answer = write_set(
             case.m,
+            case.line,
             case.has_incurred,
             &case.counts,
             &case.paid,
@@ -143,13 +171,15 @@ fn generated_writes() {
             Err(refusal) => {
                 outcomes[refusal as usize] += 1;
                 assert_eq!(out, before);
+                assert_eq!(refusal == 3, !is_line(case.line) && refusal != 1);
             }
             Ok(()) => {
                 outcomes[0] += 1;
+                lines[case.line as usize] += 1;
                 let length = file_length(case.m as usize, case.has_incurred);
                 assert_eq!(out[length..], before[length..]);
                 let set = read_set(&out[..length], case.m).unwrap();
-                assert_eq!(set.has_incurred, case.has_incurred);
+                assert_eq!((set.line, set.has_incurred), (case.line, case.has_incurred));
                 let given = [&case.counts, &case.paid, &case.incurred];
                 for kind in 0..set.kinds() {
                     for (i, j) in cells(set.m) {
@@ -162,10 +192,11 @@ fn generated_writes() {
     }
     assert!(outcomes[0] > 1_000, "{outcomes:?}");
     assert!(
-        [1, 5, 7].iter().all(|&refusal| outcomes[refusal] >= 20),
+        [1, 3, 5, 7].iter().all(|&refusal| outcomes[refusal] >= 20),
         "{outcomes:?}"
     );
-    assert!([2, 3, 4, 6].iter().all(|&refusal| outcomes[refusal] == 0));
+    assert!([2, 4, 6].iter().all(|&refusal| outcomes[refusal] == 0));
+    assert!(lines.iter().all(|&times| times >= 100), "{lines:?}");
 }
 
 #[test]
@@ -176,6 +207,7 @@ fn writer_takes_its_questions_in_order() {
         let mut out = vec![7; length];
         let answer = write_set(
             m,
+            set.line,
             has_incurred,
             &set.counts,
             &set.paid,
@@ -185,11 +217,21 @@ fn writer_takes_its_questions_in_order() {
         assert!(answer.is_ok() || out.iter().all(|&byte| byte == 7));
         answer
     };
-    assert_eq!(write(1, &bad, true, 0), Err(1));
-    assert_eq!(write(21, &bad, true, 0), Err(1));
-    assert_eq!(write(2, &bad, true, 0), Err(5));
-    assert_eq!(write(2, &set_k(), true, 143), Err(7));
-    assert_eq!(write(2, &set_k(), true, 144), Ok(()));
+    for line in [6, 7, 255, 256, 257, 261, 1 << 32, u64::MAX] {
+        let bad = bad.on_line(line);
+        assert_eq!(write(1, &bad, true, 0), Err(1));
+        assert_eq!(write(21, &bad, true, 0), Err(1));
+        assert_eq!(write(2, &bad, true, 0), Err(3));
+        assert_eq!(write(2, &set_k().on_line(line), true, 143), Err(3));
+        assert_eq!(write(2, &set_k().on_line(line), true, 144), Err(3));
+    }
+    for line in 0..=5 {
+        let bad = bad.on_line(line);
+        assert_eq!(write(1, &bad, true, 0), Err(1));
+        assert_eq!(write(2, &bad, true, 0), Err(5));
+        assert_eq!(write(2, &set_k().on_line(line), true, 143), Err(7));
+        assert_eq!(write(2, &set_k().on_line(line), true, 144), Ok(()));
+    }
     assert_eq!(write(2, &set_k(), false, 95), Err(7));
     assert_eq!(write(2, &set_k(), false, 96), Ok(()));
     // Incurred is not looked at where it is not there.

@@ -1,7 +1,7 @@
 //! A refusal for each question, and their order.
 
 use reference::examples::{set, set_k, set_k_without_incurred, EDGES};
-use reference::generate::file;
+use reference::generate::{file, put_on_line};
 use reference::page::page_length;
 use reference::*;
 
@@ -19,15 +19,27 @@ fn of_file(file: &[u8], m: u64) -> [Option<Refusal>; 4] {
     ]
 }
 
-/// Refused with this number by every call that takes a file, however short an output or a page is.
+/// Refused with this number by every call that takes a file, however short an output or a page is,
+/// and whatever delays and dates are.
 fn refused_by_all(file: &[u8], m: u64, refusal: Refusal) {
     assert_eq!(of_file(file, m), [Some(refusal); 4]);
     assert_eq!(dcl(file, m), Err(refusal));
     assert_eq!(forecast(file, m, 0, 1, 0), Err(refusal));
+    assert_eq!(check_delays(file, m, &[]), Err(refusal));
+    assert_eq!(forecast_with_delays(file, m, 0, 1, &[], 0), Err(refusal));
     assert_eq!(closing_page(file, m, 0, 1, 0), Err(refusal));
+    assert_eq!(cash_in_window(file, m, 0, 1, &NO_DATES), Err(refusal));
     assert_eq!(back_test(file, m, 1, 0, 1), Err(refusal));
     assert_eq!(demand3(file, m).err(), Some(refusal));
+    let text = closing(&[format!("{m} 0 1\n").as_bytes(), file].concat());
+    assert_eq!(text, format!("refused {refusal}\n").into_bytes());
 }
+
+const NO_DATES: Window = Window {
+    valuation: Date::new(0, 0, 0),
+    start: Date::new(0, 0, 0),
+    end: Date::new(0, 0, 0),
+};
 
 #[test]
 fn question_1() {
@@ -62,9 +74,6 @@ fn question_3() {
         (2, 255),
         (17, 2),
         (34, 1),
-        (3, 1),
-        (7, 128),
-        (5, 255),
     ];
     for (at, byte) in changes {
         let mut damaged = good.clone();
@@ -77,6 +86,62 @@ fn question_3() {
     let mut incurred_in_short = short.clone();
     incurred_in_short[0] = 2;
     refused_by_all(&incurred_in_short, 2, 3);
+}
+
+/// The bytes behind the line are zero in every record, on every line.
+#[test]
+fn question_3_of_spare_bytes() {
+    for line in 0..=5 {
+        for good in [set_k(), set_k_without_incurred()].map(|set| file(&set.on_line(line))) {
+            let last = good.len() - 16;
+            for record in [0, 32, last] {
+                for (byte, value) in [(4, 1), (5, 255), (6, 5), (7, 128)] {
+                    let mut damaged = good.clone();
+                    damaged[record + byte] = value;
+                    refused_by_all(&damaged, 2, 3);
+                }
+            }
+        }
+    }
+}
+
+/// All records stand on one line of 0 to 5.
+#[test]
+fn question_3_of_lines() {
+    for good in [file(&set_k()), file(&set_k_without_incurred())] {
+        let last = good.len() - 16;
+        for line in 0..=255 {
+            let mut moved = good.clone();
+            put_on_line(&mut moved, line);
+            let read = read_set(&moved, 2).map(|set| set.line);
+            match line {
+                0..=5 => assert_eq!(read, Ok(u64::from(line))),
+                _ => assert_eq!(read, Err(3)),
+            }
+            // One record on another line than the rest: the first, a middle one, the last.
+            for (record, other) in [(0, 0), (0, 5), (32, 1), (32, 255), (last, 0), (last, 6)] {
+                let mut mixed = moved.clone();
+                mixed[record + 3] = other;
+                if other != line {
+                    assert_eq!(read_set(&mixed, 2), Err(3), "{other} among {line}");
+                }
+            }
+        }
+        for (record, other) in [(0, 1), (0, 255), (32, 5), (last, 1), (last, 6)] {
+            let mut mixed = good.clone();
+            mixed[record + 3] = other;
+            refused_by_all(&mixed, 2, 3);
+        }
+        for line in [6, 128, 255] {
+            let mut moved = good.clone();
+            put_on_line(&mut moved, line);
+            refused_by_all(&moved, 2, 3);
+        }
+        // Half of them on one line and half on another.
+        let mut mixed = good.clone();
+        (0..=last).step_by(32).for_each(|at| mixed[at + 3] = 3);
+        refused_by_all(&mixed, 2, 3);
+    }
 }
 
 #[test]
@@ -122,15 +187,22 @@ fn question_5() {
 /// A lower number wins wherever its record stands.
 #[test]
 fn questions_3_to_5_go_over_the_whole_file() {
-    let mut damaged = file(&set_k());
-    damaged[8..16].copy_from_slice(&(-1i64).to_le_bytes());
-    refused_by_all(&damaged, 2, 5);
-    damaged.copy_within(7 * 16..8 * 16, 6 * 16);
-    refused_by_all(&damaged, 2, 4);
-    damaged[8 * 16 + 4] = 1;
-    refused_by_all(&damaged, 2, 3);
-    damaged.pop();
-    refused_by_all(&damaged, 2, 2);
+    for line in [0, 5] {
+        let mut damaged = file(&set_k().on_line(line));
+        damaged[8..16].copy_from_slice(&(-1i64).to_le_bytes());
+        refused_by_all(&damaged, 2, 5);
+        damaged.copy_within(7 * 16..8 * 16, 6 * 16);
+        refused_by_all(&damaged, 2, 4);
+        // A spare byte, another line and all on a line that there is not.
+        for (from, byte, value) in [(8, 4, 1), (8, 3, 2), (0, 3, 6)] {
+            let mut damaged = damaged.clone();
+            let records = damaged[16 * from..].chunks_exact_mut(16);
+            records.for_each(|record| record[byte] = value);
+            refused_by_all(&damaged, 2, 3);
+            damaged.pop();
+            refused_by_all(&damaged, 2, 2);
+        }
+    }
 }
 
 #[test]

@@ -6,7 +6,7 @@ use Prim.Native.Nat.{ℕ, _≤_}
 use native.Mathlib.Omega.{arith}
 use borrow.Author.Needs.{needs}
 use denote.Ref.{now}
-use Rattle.model.specs.Records.{hasIncurred}
+use Rattle.model.specs.Records.{setOf}
 use Rattle.model.specs.Calls.{backTestRefusal, backTestAnswer, refusedBackTest}
 use Rattle.model.specs.CallsLaws.{settingsRefusal}
 use Rattle.model.specs.declared.TriangleSet.{TriangleSet}
@@ -74,16 +74,18 @@ module _ (c : tie.Else3) where
 
 test-set-requires : tie.Need-test-set-requires
 test-set-requires c κs =
-    let d = c .before in
+    let d = c .before .before in
     let y = read d in
     (read-in-range (base y .read-to-forecast .ensures) (y .if1 .left), cut-least d, omega (arith, d .if3 .left, sized y))
 
 returns-4 : tie.Need-returns-4
+unfolding setOf
 returns-4 c =
-    let d = c .before .before in
+    let l = c .before in
+    let d = l .before .before in
     let y = read d in
     let b = base y in
-    c .test-set .ensures (hasIncurred (m b) (f b))
+    c .test-set .ensures (setOf (m b) (f b)) (l .line .ensures)
     ∙ ap (λ (t : TriangleSet). setTest (m b) t (cut b) (start b .args .method) (start b .args .basis)) (b .read-to-forecast .ensures .holds (y .if1 .left))
     ∙ tested (m b) (f b) (cut b) (start b .args .method) (start b .args .basis) (passed y) (cut-least d) (omega (arith, d .if3 .left, sized y))
 
@@ -99,5 +101,6 @@ back-test-spec =
     (λ c. omega (arith, sized (c .before)))
     (λ c κs. search needs)
     returns-3
+    (λ c κs. search needs)
     test-set-requires
     returns-4)

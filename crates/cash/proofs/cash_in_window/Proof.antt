@@ -12,7 +12,7 @@ use mir.Syntax.{w64}
 use mir.Val.{SFits, toZ, ofZ}
 use mir.Facts.{toZ-ofZ}
 use Rattle.integers.specs.Order.{natAbs--ℤ}
-use Rattle.model.specs.Records.{setOf, hasIncurred}
+use Rattle.model.specs.Records.{setOf}
 use Rattle.model.specs.Lent.{lentSet}
 use Rattle.model.specs.Cells.{size}
 use Rattle.model.specs.CellsLaws.{size-most}
@@ -66,10 +66,11 @@ sized c = read-sized (c .before .read-to-forecast .ensures) (c .if1 .left)
 
 returns : tie.Need-returns
 returns c =
-    let x = c .before in
+    let x = c .before .before in
     let e = x .read-to-forecast .ensures .refusal in
-    refused-is (m x) (f x) (method x) (basis x) (v x) (a x) (b x) (c .if1 .taken)
-    (by-settings (m x) (f x) (method x) (basis x) (v x) (a x) (b x) (λ z. c .if1 .taken (e ∙ z)) ∙ sym e)
+    let o = c .before .if1 .taken in
+    c .refused .ensures
+    ∙ refused-is (m x) (f x) (method x) (basis x) (v x) (a x) (b x) o (by-settings (m x) (f x) (method x) (basis x) (v x) (a x) (b x) (λ z. o (e ∙ z)) ∙ sym e)
 
 forecast-set-requires : tie.Need-forecast-set-requires
 forecast-set-requires c κs =
@@ -90,25 +91,27 @@ module _ (c : tie.After-forecast-set) where
   abbrev settled : settingsRefusal (m base) (f base) (method base) (basis base) ≡ 0
   settled = passed-settings (base .read-to-forecast .ensures) (read .if1 .left)
 
-  abbrev set : lentSet (hasIncurred (m base) (f base)) (base .read-to-forecast .last .1 .1 .1 .1 .0) ≡ setOf (m base) (f base)
+  abbrev set : lentSet (setOf (m base) (f base)) (base .read-to-forecast .last .1 .1 .1 .1 .0) ≡ setOf (m base) (f base)
   set = base .read-to-forecast .ensures .holds (read .if1 .left)
 
   number : c .forecast-set .result ≡ setRefusal (m base) (setOf (m base) (f base)) (method base)
-  number = set-number (m base) (f base) (method base) (basis base) settled set (c .forecast-set .ensures .0 (hasIncurred (m base) (f base)))
+  number = set-number (m base) (f base) (method base) (basis base) settled set (c .forecast-set .ensures .0 (setOf (m base) (f base)))
 
   small : c .forecast-set .result ≡ 0 → (2 ≤ m base) × (m base ≤ 20) × (size (m base) ≤ 1560) × Small (m base) out
-  small = set-small (m base) (f base) (method base) (basis base) settled set (c .forecast-set .ensures .0 (hasIncurred (m base) (f base)))
+  small = set-small (m base) (f base) (method base) (basis base) settled set (c .forecast-set .ensures .0 (setOf (m base) (f base)))
 
   tally : c .forecast-set .result ≡ 0 → tallyOf (m base) out ≡ fileTally (m base) (f base) (method base) (basis base)
   unfolding fileTally
-  tally z = ap (tallyOf (m base)) (set-forecast (m base) (f base) (method base) (basis base) settled set (c .forecast-set .ensures .0 (hasIncurred (m base) (f base))) z)
+  tally z = ap (tallyOf (m base)) (set-forecast (m base) (f base) (method base) (basis base) settled set (c .forecast-set .ensures .0 (setOf (m base) (f base))) z)
 
 returns-2 : tie.Need-returns-2
 returns-2 c =
-    let w = c .before .before in
+    let w = c .before .before .before in
     let x = base w in
-    refused-is (m x) (f x) (method x) (basis x) (v x) (a x) (b x) (c .if2 .taken)
-    (by-set (m x) (f x) (method x) (basis x) (v x) (a x) (b x) (settled w) (λ z. c .if2 .taken (number w ∙ z)) ∙ sym (number w))
+    let o = c .before .if2 .taken in
+    c .refused2 .ensures
+    ∙ refused-is (m x) (f x) (method x) (basis x) (v x) (a x) (b x) o
+    (by-set (m x) (f x) (method x) (basis x) (v x) (a x) (b x) (settled w) (λ z. o (number w ∙ z)) ∙ sym (number w))
 
 -- questions 9 to 14 passed
 module _ (c : tie.Else2) where
@@ -123,10 +126,11 @@ module _ (c : tie.Else2) where
 
 returns-3 : tie.Need-returns-3
 returns-3 c =
-    let e = c .before .before in
+    let e = c .before .before .before in
     let x = given e in
-    refused-is (m x) (f x) (method x) (basis x) (v x) (a x) (b x) (λ z. omega arith)
-    (by-dates (m x) (f x) (method x) (basis x) (v x) (a x) (b x) (settled (made e)) (forecast e) (refused (c .if3 .taken) (c .before .q19 .ensures)))
+    c .refused3 .ensures
+    ∙ refused-is (m x) (f x) (method x) (basis x) (v x) (a x) (b x) (λ z. omega arith)
+    (by-dates (m x) (f x) (method x) (basis x) (v x) (a x) (b x) (settled (made e)) (forecast e) (refused (c .before .if3 .taken) (c .before .before .q19 .ensures)))
 
 -- and question 19
 module _ (c : tie.Else3) where
@@ -223,27 +227,33 @@ module _ (c : tie.After-due-before2) where
   amount-is = ap₂ _-ℤ_ due-end due-start
 
 returns-4 : tie.Need-returns-4
+unfolding setOf
 returns-4 c =
-    let y = x c in
-    let d = dates (tallied c) in
+    let w = c .before in
+    let y = x w in
+    let d = dates (tallied w) in
     accepted-is (m y) (f y) (method y) (basis y) (v y) (a y) (b y)
     (accepted (m y) (f y) (method y) (basis y) (v y) (a y) (b y) (settled (made (set-made d))) (forecast (set-made d)) (in-window d))
-    (toZ-ofZ (amount-fits c) ∙ amount-is c)
+    (c .line .ensures) (toZ-ofZ (amount-fits w) ∙ amount-is w)
 
 pub cash-in-window-spec : {M : Type 1} → statement M
 cash-in-window-spec =
     tie.close
     (tie.spec
     (λ c κs. search needs)
+    (λ c κs. search needs)
     returns
     (λ c. search needs)
     forecast-set-requires
+    (λ c κs. search needs)
     returns-2
     (λ c κs. sized (read (made c)))
+    (λ c κs. search needs)
     returns-3
     (λ c. search needs)
     tally-of-requires
     due-before-requires
     due-before-requires-2
-    amount-fits
+    (λ c κs. search needs)
+    (λ c. amount-fits (c .before))
     returns-4)

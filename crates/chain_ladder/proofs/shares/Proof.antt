@@ -6,9 +6,10 @@ use Rattle.chain_ladder.proofs.shares.Tie as tie
 
 returns : tie.Need-returns
 returns c =
-    let s = c .before .before .before .before .before .before .before in
-    let e = c .shares-into .ensures in
-    shares-whole (s .args .m) (now (s .args .file)) (e .0) (e .1 .0) (e .1 .1 .0) (e .1 .1 .1 .0) (e .1 .1 .1 .1 .0) (e .1 .1 .1 .1 .1)
+    let w = c .before .before in
+    let s = w .before .before .before .before .before .before .before in
+    let e = w .shares-into .ensures in
+    shares-whole (s .args .m) (now (s .args .file)) (e .0) (c .store-line .ensures) (e .1 .0) (e .1 .1 .0) (e .1 .1 .1 .0) (e .1 .1 .1 .1 .0) (e .1 .1 .1 .1 .1)
 
 pub shares-spec : {M : Type 1} → statement M
-shares-spec = tie.close (tie.spec (λ c κs. tt) returns)
+shares-spec = tie.close (tie.spec (λ c κs. tt) (λ c κs. tt) returns)

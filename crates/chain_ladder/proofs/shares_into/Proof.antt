@@ -5,7 +5,7 @@ use mathlib.Core.List.{List}
 use Prim.Native.Nat.{ℕ, _≤_}
 use denote.Ref.{now}
 use lib.IntN.{ℤ}
-use Rattle.model.specs.Records.{hasIncurred}
+use Rattle.model.specs.Records.{setOf}
 use Rattle.model.specs.Questions.{firstNo, ofShares}
 use Rattle.model.specs.Calls.{sharesRefusal, sharesOf, sharesAnswer}
 use Rattle.model.specs.CallsLaws.{if-refused}
@@ -39,7 +39,7 @@ module _ (c : tie.Else1) where
   abbrev one : tie.After-read-cells
   one = c .before
 
-  read : Accepted (m one) (f one) (lentSet (hasIncurred (m one) (f one)) (lent one))
+  read : Accepted (m one) (f one) (lentSet (setOf (m one) (f one)) (lent one))
   read = accepted (m one) (f one) (one .read-cells .ensures) (c .if1 .left)
 
 module _ (c : tie.After-develop) where
@@ -69,13 +69,13 @@ module _ (c : tie.Else2) where
 
   shared : Shared (m base) (triangleIn 0 (lent base)) (triangleIn 1 (lent base))
   shared =
-      shared-set (m base) (lentSet (hasIncurred (m base) (f base)) (lent base)) (read (two made) .valid)
+      shared-set (m base) (lentSet (setOf (m base) (f base)) (lent base)) (read (two made) .valid)
       (sym (made .develop .ensures .refusal) ∙ c .if2 .left)
 
   few : m base ≤ 20
   few = shared .counts .small .few
 
-  answer-is : sharesOf (m base) (lentSet (hasIncurred (m base) (f base)) (lent base)) ≡ sharesAnswer (m base) (f base)
+  answer-is : sharesOf (m base) (lentSet (setOf (m base) (f base)) (lent base)) ≡ sharesAnswer (m base) (f base)
   answer-is = ap (sharesOf (m base)) (read (two made) .is) ∙ sym (shares-yes (m base) (f base) (refused-by made ∙ c .if2 .left))
 
 returns : tie.Need-returns
@@ -119,7 +119,7 @@ shares-into-spec =
     (tie.spec
     (λ c κs. refl)
     returns
-    (λ c κs. let e = c .before .before .before .before .before in let s = lentSet (hasIncurred (m (one e)) (f (one e))) (lent (one e)) in ((counts-of (m (one e)) s (read e .valid), paid-of (m (one e)) s (read e .valid)), (refl, refl, refl, refl)))
+    (λ c κs. let e = c .before .before .before .before .before in let s = lentSet (setOf (m (one e)) (f (one e))) (lent (one e)) in ((counts-of (m (one e)) s (read e .valid), paid-of (m (one e)) s (read e .valid)), (refl, refl, refl, refl)))
     returns-2
     (λ c κs. ladder-ready (counts (c .before)) (counts-ready (shared (c .before))) .bounds)
     (λ c κs. let e = c .before .before .before .before in ladder-ready (counts e) (counts-ready (shared e)))

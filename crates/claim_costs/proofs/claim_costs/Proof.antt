@@ -5,7 +5,7 @@ use mathlib.Core.List.{List}
 use Prim.Native.Nat.{ℕ}
 use borrow.Author.Needs.{needs}
 use denote.Ref.{now}
-use Rattle.model.specs.Records.{hasIncurred}
+use Rattle.model.specs.Records.{setOf}
 use Rattle.model.specs.Lent.{lentSet}
 use Rattle.model.specs.declared.TriangleSet.{TriangleSet}
 use Rattle.chain_ladder.specs.Accepted.{Accepted, accepted}
@@ -23,7 +23,7 @@ module _ (c : tie.After-read-cells) where
   f = now (c .before .before .before .args .file)
 
   abbrev set : TriangleSet
-  set = lentSet (hasIncurred m f) (c .read-cells .last .1 .1 .0)
+  set = lentSet (setOf m f) (c .read-cells .last .1 .1 .0)
 
 -- the file is accepted
 file : (c : tie.Else1) → Accepted (m (c .before)) (f (c .before)) (set (c .before))
@@ -36,16 +36,18 @@ returns c =
 
 claim-costs-of-set-requires : tie.Need-claim-costs-of-set-requires
 claim-costs-of-set-requires c κs =
-    let e = c .before in
+    let e = c .before .before in
     let b = e .before in
     (counts-of (m b) (set b) (file e .valid), paid-of (m b) (set b) (file e .valid))
 
 returns-2 : tie.Need-returns-2
+unfolding setOf
 returns-2 c =
-    let e = c .before .before in
+    let l = c .before in
+    let e = l .before .before in
     let b = e .before in
-    c .claim-costs-of-set .ensures (hasIncurred (m b) (f b)) ∙ ap (costsOfSet (m b)) (file e .is) ∙ sym (file-yes (m b) (f b) (file e .read))
+    c .claim-costs-of-set .ensures (setOf (m b) (f b)) (l .line .ensures) ∙ ap (costsOfSet (m b)) (file e .is) ∙ sym (file-yes (m b) (f b) (file e .read))
 
 pub claim-costs-spec : {M : Type 1} → statement M
 claim-costs-spec =
-    tie.close (tie.spec (λ c κs. refl) (λ c κs. search needs) returns claim-costs-of-set-requires returns-2)
+    tie.close (tie.spec (λ c κs. refl) (λ c κs. search needs) returns (λ c κs. search needs) claim-costs-of-set-requires returns-2)

@@ -6,8 +6,9 @@ use Rattle.delays.proofs.delays.Tie as tie
 
 returns : tie.Need-returns
 returns c =
-    let s = c .before .before .before in
-    delays-whole (s .args .m) (now (s .args .file)) (c .delays-into .ensures .0) (c .delays-into .ensures .1)
+    let w = c .before .before in
+    let s = w .before .before .before in
+    delays-whole (s .args .m) (now (s .args .file)) (w .delays-into .ensures .0) (c .store-line .ensures) (w .delays-into .ensures .1)
 
 pub delays-spec : {M : Type 1} → statement M
-delays-spec = tie.close (tie.spec (λ c κs. tt) returns)
+delays-spec = tie.close (tie.spec (λ c κs. tt) (λ c κs. tt) returns)

@@ -4,7 +4,7 @@ use mathlib.Core.Path.{refl, sym, _∙_, ap}
 use mathlib.Core.List.{List}
 use Prim.Native.Nat.{ℕ}
 use denote.Ref.{now}
-use Rattle.model.specs.Records.{hasIncurred}
+use Rattle.model.specs.Records.{setOf}
 use Rattle.model.specs.Calls.{ifAccepted}
 use Rattle.model.specs.Lent.{lentSet}
 use Rattle.model.specs.declared.TriangleSet.{TriangleSet}
@@ -26,7 +26,7 @@ module _ (c : tie.After-read-cells) where
   f = now (start .args .file)
 
   abbrev set : TriangleSet
-  set = lentSet (hasIncurred m f) (c .read-cells .last .1 .1 .0)
+  set = lentSet (setOf m f) (c .read-cells .last .1 .1 .0)
 
 read : (c : tie.Else1) → Accepted (m (c .before)) (f (c .before)) (set (c .before))
 read c = accepted (m (c .before)) (f (c .before)) (c .before .read-cells .ensures) (c .if1 .left)

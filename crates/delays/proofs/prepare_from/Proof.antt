@@ -14,11 +14,10 @@ use Rattle.model.specs.Lent.{triangleIn}
 use Rattle.chain_ladder.specs.Developed.{Ladder}
 use Rattle.chain_ladder.specs.DevelopedLaws.{Shared, counts-ready, paid-ready}
 use Rattle.chain_ladder.specs.LadderLaws.{ladder-ready, ladder-shares}
-use Rattle.delays.specs.declared.Solved.{Solved}
-use Rattle.delays.specs.Solved.{solvedOf, checkedOf}
-use Rattle.delays.specs.SolvedLaws.{solvable}
+use Rattle.solver.specs.declared.Solved.{Solved}
+use Rattle.solver.specs.Solved.{solvedOf, checkedOf}
 use Rattle.delays.specs.Prepared.{PreparedFrom, refusalFrom}
-use Rattle.delays.specs.PreparedLaws.{by-shares, by-delays, none-refused, found-delays}
+use Rattle.delays.specs.PreparedLaws.{solvable, by-shares, by-delays, none-refused, found-delays}
 use Rattle.delays.proofs.prepare_from.Statement.{statement}
 use Rattle.delays.proofs.prepare_from.Tie as tie
 

@@ -16,10 +16,10 @@ use Rattle.forecast.proofs.forecast.Tie as tie
 returns : tie.Need-returns
 unfolding forecastRefusal forecastAnswer forecastOutput ofForecast ofEither asksDelays eitherDelays delaysOf
 returns c =
-    let w = c .before in
+    let w = c .before .before .before in
     let a = w .before .before .before .before .args in
     let e = w .forecast-into .ensures in
-    record { result = by-value (a .m) (now (a .file)) (a .method) (a .basis) false [] (now (a .out)) e; output = e .1 .1 .0; reserve = e .1 .1 .1 }
+    record { result = by-value (a .m) (now (a .file)) (a .method) (a .basis) false [] (now (a .out)) e (c .store-line .ensures); output = e .1 .1 .0; reserve = e .1 .1 .1 }
 
 pub forecast-spec : {M : Type 1} → statement M
-forecast-spec = tie.close (tie.spec (λ c κs. search needs) (λ c. search needs) returns)
+forecast-spec = tie.close (tie.spec (λ c κs. search needs) (λ c κs. search needs) (λ c. search needs) returns)

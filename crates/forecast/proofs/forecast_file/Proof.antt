@@ -7,7 +7,7 @@ use native.Mathlib.Omega.{arith}
 use borrow.Author.Needs.{needs}
 use denote.Ref.{now}
 use lib.IntN.{ℤ}
-use Rattle.model.specs.Records.{hasIncurred}
+use Rattle.model.specs.Records.{setOf}
 use Rattle.model.specs.CellsLaws.{size-most}
 use Rattle.forecast.specs.ReadFile.{passed-settings, read-sized, read-in-range}
 use Rattle.forecast.specs.FileLaws.{by-settings, by-room, refused, forecasted}
@@ -63,7 +63,7 @@ returns-3 c =
     let r = b .read-to-forecast .ensures in
     let z = y .if1 .left in
     forecasted (m b) (f b) (start b .args .method) (start b .args .basis) (start b .args .given) (lent b) (out b) (passed-settings r z) (e .if2 .left) (r .holds z)
-    (w .forecast-either .ensures .0 (hasIncurred (m b) (f b))) (w .forecast-either .ensures .1)
+    (w .forecast-either .ensures .0 (setOf (m b) (f b))) (w .forecast-either .ensures .1)
 
 pub forecast-file-spec : {M : Type 1} → statement M
 forecast-file-spec =

@@ -14,10 +14,10 @@ use Rattle.forecast.proofs.forecast_with_delays.Tie as tie
 returns : tie.Need-returns
 unfolding forecastWithRefusal forecastWithAnswer forecastWithOutput ofForecastWith ofEither asksDelays eitherDelays
 returns c =
-    let w = c .before in
+    let w = c .before .before .before in
     let a = w .before .before .before .before .args in
     let e = w .forecast-with-delays-into .ensures in
-    record { result = by-value (a .m) (now (a .file)) (a .method) (a .basis) true (now (a .delays)) (now (a .out)) e; output = e .1 .1 .0; reserve = e .1 .1 .1 }
+    record { result = by-value (a .m) (now (a .file)) (a .method) (a .basis) true (now (a .delays)) (now (a .out)) e (c .store-line .ensures); output = e .1 .1 .0; reserve = e .1 .1 .1 }
 
 pub forecast-with-delays-spec : {M : Type 1} → statement M
-forecast-with-delays-spec = tie.close (tie.spec (λ c κs. search needs) (λ c. search needs) returns)
+forecast-with-delays-spec = tie.close (tie.spec (λ c κs. search needs) (λ c κs. search needs) (λ c. search needs) returns)

@@ -7,7 +7,7 @@ use native.Mathlib.Omega.{arith}
 use borrow.Author.Needs.{needs}
 use borrow.Author.Tests.{not-true, not-false}
 use denote.Ref.{now}
-use Rattle.model.specs.Records.{hasIncurred}
+use Rattle.model.specs.Records.{setOf, hasIncurred}
 use Rattle.model.specs.Questions.{q6}
 use Rattle.model.specs.CallsLaws.{file-no, six-no, six-yes}
 use Rattle.model.specs.Lent.{lentSet}
@@ -27,7 +27,7 @@ module _ (c : tie.After-read-cells) where
   f = now (start .args .file)
 
 -- the file is accepted
-file : (c : tie.Else1) → let b = c .before in Accepted (m b) (f b) (lentSet (hasIncurred (m b) (f b)) (b .read-cells .last .1 .1 .0))
+file : (c : tie.Else1) → let b = c .before in Accepted (m b) (f b) (lentSet (setOf (m b) (f b)) (b .read-cells .last .1 .1 .0))
 file c = accepted (m (c .before)) (f (c .before)) (c .before .read-cells .ensures) (c .if1 .left)
 
 asked-6 : (c : tie.After-q6) → let b = c .before .before .before in c .q6 .result ≡ q6 (hasIncurred (m b) (f b)) (start b .args .method) (start b .args .basis)

@@ -13,7 +13,7 @@ use mir.Facts.{toZ-ofZ}
 use Rattle.integers.specs.Sums.{sum}
 use Rattle.model.specs.Lists.{at}
 use Rattle.model.specs.CalendarLaws.{fits-so}
-use Rattle.chain_ladder.specs.Running.{sum-none, held, sum-more}
+use Rattle.arithmetic.specs.Running.{sum-none, held, sum-more}
 use Rattle.tally.proofs.spaced_sum.Statement.{statement}
 use Rattle.tally.proofs.spaced_sum.Tie as tie
 

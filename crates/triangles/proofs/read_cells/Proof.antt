@@ -25,16 +25,17 @@ mul-if2 c = omega (arith, set-most _ (c .before .has-incurred .result) (size-so 
 
 read-records-requires : tie.Need-read-records-requires
 read-records-requires c κs =
-    let k = c .before in
+    let k = c .before .before in
     let l : k .kinds .result ≤ 3 = rw (k .kinds .ensures) (kinds-range _ .1) in
     ((size-so _ (size (k .before .before .before .before)) .1, l), (omega (arith, k .before .if2 .taken), search needs))
 
 returns : tie.Need-returns
 returns c =
-    let k = c .before .before in
+    let v = c .before .before in
+    let k = v .before in
     let d = k .before .before in
     let u = k .kinds .ensures ∙ ap kinds (d .before .has-incurred .ensures) in
-    read-so _ _ _ (size (d .before .before)) _ (k .before .if2 .taken) (long d) _ (rw u at (c .read-records .ensures))
+    read-so _ _ _ (size (d .before .before)) _ (k .before .if2 .taken) (long d) _ (rw (u, v .line .ensures) at (c .read-records .ensures))
 
 returns-2 : tie.Need-returns-2
 returns-2 c = let d = c .before in no-2 _ _ (now (d .before .before .before .before .before .args .set)) (size (d .before .before)) (λ e. c .if2 .left (e ∙ sym (long d)))
@@ -50,6 +51,7 @@ read-cells-spec =
     (λ c κs. size-so _ (size c) .1)
     (λ c κs. size-so _ (size (c .before)) .1)
     mul-if2
+    (λ c κs. search needs)
     (λ c κs. search needs)
     read-records-requires
     returns

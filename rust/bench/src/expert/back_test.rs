@@ -25,6 +25,7 @@ pub fn back_test(file: &[u8], m: usize, c: u64, method: u64, basis: u64) -> Resu
         }
     })?;
     Ok(BackTest {
+        line: set.line,
         cells,
         cellwise,
         yearwise: years.iter().map(|error| error.unsigned_abs()).sum(),

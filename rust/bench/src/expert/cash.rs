@@ -2,7 +2,7 @@
 
 use super::closing::add_up;
 use super::records::fill;
-use crate::plain::{question_6, Date, Set};
+use crate::plain::{question_6, Cash, Date, Set};
 
 /// The days of a common year before each month, and of all twelve.
 const BEFORE: [u64; 13] = [0, 31, 59, 90, 120, 151, 181, 212, 243, 273, 304, 334, 365];
@@ -64,7 +64,7 @@ pub fn cash_in_window(
     method: u64,
     basis: u64,
     dates: &[Date; 3],
-) -> Result<i64, u64> {
+) -> Result<Cash, u64> {
     let mut set = Set::zero();
     fill(file, m, &mut set)?;
     question_6(&set, method, basis)?;
@@ -83,5 +83,8 @@ pub fn cash_in_window(
     for (t, (rbns, ibnr)) in years[..last as usize].iter().enumerate() {
         sums[t + 1] = sums[t] + rbns + ibnr;
     }
-    Ok(due(&sums, valuation, end, to) - due(&sums, valuation, start, from))
+    Ok(Cash {
+        line: set.line,
+        amount: due(&sums, valuation, end, to) - due(&sums, valuation, start, from),
+    })
 }

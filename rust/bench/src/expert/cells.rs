@@ -4,7 +4,7 @@ use super::delays::solve;
 use super::row_bases::row_bases;
 use super::shares::Estimates;
 use super::{nearest, SCALE};
-use crate::plain::Set;
+use crate::plain::{Forecast, Set};
 
 /// A row base in two parts, S × `high` + `low`, and its sign.
 struct Base {
@@ -77,15 +77,15 @@ fn add(sums: &mut [i64], share: i64, p: &[i64]) {
     }
 }
 
-/// Questions 9 to 14 of the first m years, then each year's cells at delays below `end(i)`, and
-/// the leftovers.
+/// Questions 9 to 14 of the first m years, then each year's cells at delays below `end(i)`, the
+/// line and the leftovers.
 pub fn each_year(
     set: &Set,
     m: usize,
     settings: [u64; 2],
     end: impl Fn(usize) -> usize,
     visit: impl FnMut(usize, Cells),
-) -> Result<[i64; 20], u64> {
+) -> Result<Forecast, u64> {
     each_year_by(set, m, settings, |found| solve(m, found), end, visit)
 }
 
@@ -97,7 +97,7 @@ pub fn each_year_by(
     delays: impl FnOnce(&Estimates) -> Result<[i64; 20], u64>,
     end: impl Fn(usize) -> usize,
     mut visit: impl FnMut(usize, Cells),
-) -> Result<[i64; 20], u64> {
+) -> Result<Forecast, u64> {
     let mut estimates = Estimates::default();
     estimates.fill(set, m)?;
     let p = delays(&estimates)?;
@@ -135,5 +135,8 @@ pub fn each_year_by(
         };
         visit(i, cells);
     }
-    Ok(bases.leftovers)
+    Ok(Forecast {
+        line: set.line,
+        leftovers: bases.leftovers,
+    })
 }

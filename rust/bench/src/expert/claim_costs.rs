@@ -12,6 +12,7 @@ pub fn claim_costs(file: &[u8], m: usize) -> Result<ClaimCosts, u64> {
     let Estimates { counts, paid, .. } = &estimates;
     let (n, u) = (&counts.ultimates, &paid.ultimates);
     let mut costs = ClaimCosts {
+        line: set.line,
         mu: u[0] as f64 / n[0] as f64,
         factors: [0.0; 20],
         inflations: [Inflation::NoPaymentsYet; 20],

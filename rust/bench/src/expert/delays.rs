@@ -3,7 +3,7 @@
 use super::records::fill;
 use super::shares::Estimates;
 use super::{nearest, SCALE};
-use crate::plain::Set;
+use crate::plain::{Delays, Set};
 
 /// Question 12, and the delays, p(l) at place l. As long as it gets a yes, sums fit 64 bits.
 pub fn solve(m: usize, Estimates { b, q, .. }: &Estimates) -> Result<[i64; 20], u64> {
@@ -20,9 +20,10 @@ pub fn solve(m: usize, Estimates { b, q, .. }: &Estimates) -> Result<[i64; 20], 
 }
 
 /// Questions 1 to 5 and 9 to 12, and the delays.
-pub fn delays(file: &[u8], m: usize) -> Result<[i64; 20], u64> {
+pub fn delays(file: &[u8], m: usize) -> Result<Delays, u64> {
     let (mut set, mut estimates) = (Set::zero(), Estimates::default());
     fill(file, m, &mut set)?;
     estimates.fill(&set, m)?;
-    solve(m, &estimates)
+    let p = solve(m, &estimates)?;
+    Ok(Delays { line: set.line, p })
 }

@@ -4,16 +4,16 @@ use super::cells::each_year_by;
 use super::delays::solve;
 use super::records::fill;
 use super::shares::Estimates;
-use crate::plain::{question_6, Set};
+use crate::plain::{question_6, Forecast, Set};
 
-/// Questions 1 to 7 and 9 to 14, the entries at the front of `out`, and the leftovers.
+/// Questions 1 to 7 and 9 to 14, the entries at the front of `out`, the line and the leftovers.
 pub fn forecast(
     file: &[u8],
     m: usize,
     method: u64,
     basis: u64,
     out: &mut [i64],
-) -> Result<[i64; 20], u64> {
+) -> Result<Forecast, u64> {
     forecast_by(file, m, [method, basis], |found| solve(m, found), out)
 }
 
@@ -24,7 +24,7 @@ pub fn forecast_by(
     settings: [u64; 2],
     delays: impl FnOnce(&Estimates) -> Result<[i64; 20], u64>,
     out: &mut [i64],
-) -> Result<[i64; 20], u64> {
+) -> Result<Forecast, u64> {
     let mut set = Set::zero();
     fill(file, m, &mut set)?;
     question_6(&set, settings[0], settings[1])?;

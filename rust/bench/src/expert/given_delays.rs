@@ -4,7 +4,7 @@ use super::forecast::forecast_by;
 use super::records::fill;
 use super::shares::Estimates;
 use super::SCALE;
-use crate::plain::Set;
+use crate::plain::{Forecast, Set};
 
 /// Question 20, and the delays, p(l) at place l. In range, they keep every sum to 64 bits; half of
 /// b(0) is cut, as distances are whole.
@@ -25,15 +25,17 @@ fn given(m: usize, Estimates { b, q, .. }: &Estimates, delays: &[i64]) -> Result
     Ok(p)
 }
 
-/// Questions 1 to 5, 9 to 11 and 20.
-pub fn check_delays(file: &[u8], m: usize, delays: &[i64]) -> Result<(), u64> {
+/// Questions 1 to 5, 9 to 11 and 20, and the line of the set.
+pub fn check_delays(file: &[u8], m: usize, delays: &[i64]) -> Result<u64, u64> {
     let (mut set, mut estimates) = (Set::zero(), Estimates::default());
     fill(file, m, &mut set)?;
     estimates.fill(&set, m)?;
-    given(m, &estimates, delays).map(|_| ())
+    given(m, &estimates, delays)?;
+    Ok(set.line)
 }
 
-/// Questions 1 to 7, 9 to 11, 20, 13 and 14, the entries at the front of `out`, and the leftovers.
+/// Questions 1 to 7, 9 to 11, 20, 13 and 14, the entries at the front of `out`, the line and the
+/// leftovers.
 pub fn forecast_with_delays(
     file: &[u8],
     m: usize,
@@ -41,7 +43,7 @@ pub fn forecast_with_delays(
     basis: u64,
     delays: &[i64],
     out: &mut [i64],
-) -> Result<[i64; 20], u64> {
+) -> Result<Forecast, u64> {
     forecast_by(
         file,
         m,

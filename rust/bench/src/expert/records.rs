@@ -32,13 +32,20 @@ pub fn fill(file: &[u8], m: usize, set: &mut Set) -> Result<(), u64> {
         return Err(2);
     }
     let kinds = if set.has_incurred { 3 } else { 2 };
+    // All records are on the line of the first.
+    set.line = file[3].into();
+    if set.line > 5 {
+        return Err(3);
+    }
+    let line = set.line << 24;
     // A bit for each delay of each row, 20 rows for each kind.
     let mut seen = [0u32; 60];
     let (mut twice, mut is_any_outside) = (0, false);
     let cells = set.triangles.as_flattened_mut();
     for record in file.as_chunks::<16>().0 {
-        let (head, value) = (word(&record[..8]), word(&record[8..]) as i64);
-        // The spare bytes count as the upper ones of the delay, which they put outside.
+        let (head, value) = (word(&record[..8]) ^ line, word(&record[8..]) as i64);
+        // What another line leaves of itself, and the spare bytes, count as the upper bytes of the
+        // delay, which they put outside.
         let [kind, i, j] = [head & 255, head >> 8 & 255, head >> 16].map(|field| field as usize);
         if kind >= kinds || i == 0 || i + j > m {
             return Err(3);
@@ -59,11 +66,14 @@ pub fn fill(file: &[u8], m: usize, set: &mut Set) -> Result<(), u64> {
     Ok(())
 }
 
-/// Questions 1, 5 and 7, and the set's records at the front of `out`.
+/// Questions 1, 3 (of the line), 5 and 7, and the set's records at the front of `out`.
 pub fn write_set(set: &Set, out: &mut [u8]) -> Result<(), u64> {
-    let m = set.m;
+    let (m, line) = (set.m, set.line);
     if !(2..=20).contains(&m) {
         return Err(1);
+    }
+    if line > 5 {
+        return Err(3);
     }
     let triangles = &set.triangles[..if set.has_incurred { 3 } else { 2 }];
     let years = |kind: usize| triangles[kind].as_chunks::<20>().0.iter().take(m);
@@ -80,7 +90,7 @@ pub fn write_set(set: &Set, out: &mut [u8]) -> Result<(), u64> {
         for (year, i) in years(kind).zip(1..) {
             let (row, later) = records.split_at_mut(16 * (m + 1 - i));
             for ((record, value), j) in row.as_chunks_mut::<16>().0.iter_mut().zip(year).zip(0..) {
-                let head: u64 = kind as u64 | (i as u64) << 8 | j << 16;
+                let head: u64 = kind as u64 | (i as u64) << 8 | j << 16 | line << 24;
                 record[..8].copy_from_slice(&head.to_le_bytes());
                 record[8..].copy_from_slice(&value.to_le_bytes());
             }

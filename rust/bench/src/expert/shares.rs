@@ -129,6 +129,7 @@ pub fn shares(file: &[u8], m: usize) -> Result<Shares, u64> {
     fill(file, m, &mut set)?;
     estimates.fill(&set, m)?;
     Ok(Shares {
+        line: set.line,
         b: estimates.b,
         n: estimates.counts.ultimates,
         q: estimates.q,

@@ -3,9 +3,11 @@
 use super::forecast::{forecast_set, question_6};
 use super::{read_set, Set};
 
-/// The number of cells, and the sums of absolute errors by cell, by calendar year and in all.
+/// The line of the set, the number of cells, and the sums of absolute errors by cell, by calendar
+/// year and in all.
 #[derive(Clone, Debug, PartialEq, Eq)]
 pub struct BackTest {
+    pub line: u64,
     pub cells: u64,
     pub cellwise: u64,
     pub yearwise: u64,
@@ -22,6 +24,7 @@ fn cut_to(set: &Set, s: usize) -> Set {
     }
     Set {
         m: s,
+        line: set.line,
         has_incurred: set.has_incurred,
         triangles,
     }
@@ -43,6 +46,7 @@ pub fn back_test(file: &[u8], m: usize, c: u64, method: u64, basis: u64) -> Resu
         &mut out[..2 * s * (2 * s - 1)],
     )?;
     let mut found = BackTest {
+        line: set.line,
         cells: 0,
         cellwise: 0,
         yearwise: 0,

@@ -7,6 +7,13 @@ use super::{nearest, read_set};
 /// A year, a month and a day.
 pub type Date = [u64; 3];
 
+/// The line of the set, and what falls due in a window.
+#[derive(Clone, Debug, PartialEq, Eq)]
+pub struct Cash {
+    pub line: u64,
+    pub amount: i64,
+}
+
 const MONTHS: [u64; 12] = [31, 28, 31, 30, 31, 30, 31, 31, 30, 31, 30, 31];
 
 fn is_leap(year: u64) -> bool {
@@ -61,7 +68,7 @@ pub fn cash_in_window(
     method: u64,
     basis: u64,
     dates: &[Date; 3],
-) -> Result<i64, u64> {
+) -> Result<Cash, u64> {
     let set = read_set(file, m)?;
     question_6(&set, method, basis)?;
     let mut out = [0; 1_560];
@@ -83,5 +90,8 @@ pub fn cash_in_window(
         return Err(19);
     }
     let years = &calendar_years(m, &out)[..2 * m - 2];
-    Ok((due(years, valuation, end) - due(years, valuation, start)) as i64)
+    Ok(Cash {
+        line: set.line,
+        amount: (due(years, valuation, end) - due(years, valuation, start)) as i64,
+    })
 }

@@ -11,9 +11,10 @@ pub enum Inflation {
     Ratio(f64),
 }
 
-/// mu, f(j) at place j - 1, and year i's inflation at place i - 1.
+/// The line of the set, mu, f(j) at place j - 1, and year i's inflation at place i - 1.
 #[derive(Clone, Debug, PartialEq)]
 pub struct ClaimCosts {
+    pub line: u64,
     pub mu: f64,
     pub factors: [f64; 20],
     pub inflations: [Inflation; 20],
@@ -21,10 +22,12 @@ pub struct ClaimCosts {
 
 /// Questions 1 to 5 and 9 to 11, and the claim costs.
 pub fn claim_costs(file: &[u8], m: usize) -> Result<ClaimCosts, u64> {
-    let estimates = estimates(&read_set(file, m)?)?;
+    let set = read_set(file, m)?;
+    let estimates = estimates(&set)?;
     let (n, u) = (estimates.shares.n, estimates.shares.u);
     let mean = |i: usize| u[i - 1] as f64 / n[i - 1] as f64;
     let mut costs = ClaimCosts {
+        line: set.line,
         mu: mean(1),
         factors: [0.0; 20],
         inflations: [Inflation::NoPaymentsYet; 20],

@@ -23,7 +23,16 @@ pub fn solve(m: usize, shares: &Shares) -> Result<[i64; 20], u64> {
     Ok(p)
 }
 
+/// The line of the set, and p(l) at place l.
+#[derive(Clone, Debug, PartialEq, Eq)]
+pub struct Delays {
+    pub line: u64,
+    pub p: [i64; 20],
+}
+
 /// Questions 1 to 5 and 9 to 12, and the delays.
-pub fn delays(file: &[u8], m: usize) -> Result<[i64; 20], u64> {
-    solve(m, &estimates(&read_set(file, m)?)?.shares)
+pub fn delays(file: &[u8], m: usize) -> Result<Delays, u64> {
+    let set = read_set(file, m)?;
+    let p = solve(m, &estimates(&set)?.shares)?;
+    Ok(Delays { line: set.line, p })
 }

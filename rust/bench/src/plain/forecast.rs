@@ -5,6 +5,13 @@ use super::row_bases::row_bases;
 use super::shares::{estimates, Estimates};
 use super::{nearest, read_set, Set, SCALE};
 
+/// The line of the set, and the leftovers; the entries stand in the caller's output.
+#[derive(Clone, Debug, PartialEq, Eq)]
+pub struct Forecast {
+    pub line: u64,
+    pub leftovers: [i64; 20],
+}
+
 /// Question 6.
 pub fn question_6(set: &Set, method: u64, basis: u64) -> Result<(), u64> {
     if method > 2 || basis > 1 || (method > 0 && !set.has_incurred) {
@@ -35,14 +42,14 @@ fn cell(v: i64, share: &[i64; 20], p: &[i64; 20], j: usize, from: usize, to: usi
     nearest(i128::from(v) * sum, SCALE * SCALE) as i64
 }
 
-/// Questions 9 to 14, the entries at the front of `out`, and the leftovers.
-pub fn forecast_set(set: &Set, method: u64, basis: u64, out: &mut [i64]) -> Result<[i64; 20], u64> {
+/// Questions 9 to 14, the entries at the front of `out`, the line and the leftovers.
+pub fn forecast_set(set: &Set, method: u64, basis: u64, out: &mut [i64]) -> Result<Forecast, u64> {
     let estimates = estimates(set)?;
     let p = solve(set.m, &estimates.shares)?;
     forecast_by_delays(set, &estimates, &p, method, basis, out)
 }
 
-/// Questions 13 and 14, the entries and the leftovers by delays that are there.
+/// Questions 13 and 14, the entries, the line and the leftovers by delays that are there.
 pub fn forecast_by_delays(
     set: &Set,
     estimates: &Estimates,
@@ -50,7 +57,7 @@ pub fn forecast_by_delays(
     method: u64,
     basis: u64,
     out: &mut [i64],
-) -> Result<[i64; 20], u64> {
+) -> Result<Forecast, u64> {
     let m = set.m;
     let bases = row_bases(set, estimates, method)?;
     let width = 2 * (2 * m - 1);
@@ -64,7 +71,10 @@ pub fn forecast_by_delays(
             row[2 * j + 1] = cell(v, &estimates.shares.b, p, j, first.max(m - i + 1), last);
         }
     }
-    Ok(bases.leftovers)
+    Ok(Forecast {
+        line: set.line,
+        leftovers: bases.leftovers,
+    })
 }
 
 /// The forecast of a file: questions 1 to 7 and 9 to 14.
@@ -74,7 +84,7 @@ pub fn forecast(
     method: u64,
     basis: u64,
     out: &mut [i64],
-) -> Result<[i64; 20], u64> {
+) -> Result<Forecast, u64> {
     let (set, out) = set_to_forecast(file, m, method, basis, out)?;
     forecast_set(&set, method, basis, out)
 }

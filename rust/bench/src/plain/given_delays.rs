@@ -1,6 +1,6 @@
 //! Given delays.
 
-use super::forecast::{forecast_by_delays, set_to_forecast};
+use super::forecast::{forecast_by_delays, set_to_forecast, Forecast};
 use super::shares::{estimates, Shares};
 use super::{read_set, SCALE};
 
@@ -24,10 +24,12 @@ fn given(m: usize, shares: &Shares, delays: &[i64]) -> Result<[i64; 20], u64> {
     Ok(p)
 }
 
-/// Questions 1 to 5, 9 to 11 and 20.
-pub fn check_delays(file: &[u8], m: usize, delays: &[i64]) -> Result<(), u64> {
-    let estimates = estimates(&read_set(file, m)?)?;
-    given(m, &estimates.shares, delays).map(|_| ())
+/// Questions 1 to 5, 9 to 11 and 20, and the line of the set.
+pub fn check_delays(file: &[u8], m: usize, delays: &[i64]) -> Result<u64, u64> {
+    let set = read_set(file, m)?;
+    let estimates = estimates(&set)?;
+    given(m, &estimates.shares, delays)?;
+    Ok(set.line)
 }
 
 /// The forecast with given delays: questions 1 to 7, 9 to 11, 20, 13 and 14.
@@ -38,7 +40,7 @@ pub fn forecast_with_delays(
     basis: u64,
     delays: &[i64],
     out: &mut [i64],
-) -> Result<[i64; 20], u64> {
+) -> Result<Forecast, u64> {
     let (set, out) = set_to_forecast(file, m, method, basis, out)?;
     let estimates = estimates(&set)?;
     let p = given(m, &estimates.shares, delays)?;

@@ -16,11 +16,11 @@ mod row_bases;
 mod shares;
 
 pub use back_test::{back_test, BackTest};
-pub use cash::{cash_in_window, Date};
+pub use cash::{cash_in_window, Cash, Date};
 pub use claim_costs::{claim_costs, ClaimCosts, Inflation};
 pub use closing::{first_line, respond};
-pub use delays::delays;
-pub use forecast::{forecast, question_6};
+pub use delays::{delays, Delays};
+pub use forecast::{forecast, question_6, Forecast};
 pub use given_delays::{check_delays, forecast_with_delays};
 pub use journal::{replay, JournalTally};
 pub use page::closing_page;

@@ -1,11 +1,13 @@
-//! Triangle records: the reader.
+//! Triangle records: the reader and the writer.
 
 use std::mem::replace;
 use std::ops::RangeInclusive;
 
-/// The triangles of a set, counts, paid and incurred; cell (i,j) at 20 × (i-1) + j.
+/// The line of cover of a set, and its triangles, counts, paid and incurred; cell (i,j) at
+/// 20 × (i-1) + j.
 pub struct Set {
     pub m: usize,
+    pub line: u64,
     pub has_incurred: bool,
     pub triangles: [[i64; 400]; 3],
 }
@@ -15,6 +17,7 @@ impl Set {
     pub fn zero() -> Set {
         Set {
             m: 0,
+            line: 0,
             has_incurred: false,
             triangles: [[0; 400]; 3],
         }
@@ -40,9 +43,9 @@ fn value(record: &[u8]) -> i64 {
     i64::from_le_bytes(record[8..16].try_into().unwrap())
 }
 
-fn is_well_formed(record: &[u8], m: usize, kinds: usize) -> bool {
+fn is_well_formed(record: &[u8], m: usize, kinds: usize, line: u8) -> bool {
     let (year, delay) = (usize::from(record[1]), usize::from(record[2]));
-    kind(record) < kinds && year >= 1 && year + delay <= m && record[3..8] == [0; 5]
+    kind(record) < kinds && year >= 1 && year + delay <= m && record[3..8] == [line, 0, 0, 0, 0]
 }
 
 /// Questions 1 to 5, and the set.
@@ -56,7 +59,9 @@ pub fn read_set(file: &[u8], m: usize) -> Result<Set, u64> {
     }
     let kinds = if has_incurred { 3 } else { 2 };
     let records = || file.chunks_exact(16);
-    if !records().all(|record| is_well_formed(record, m, kinds)) {
+    // All records are on the line of the first.
+    let line = file[3];
+    if line > 5 || !records().all(|record| is_well_formed(record, m, kinds, line)) {
         return Err(3);
     }
     // There are as many records as cells, so each cell is there once where none is there twice.
@@ -73,16 +78,20 @@ pub fn read_set(file: &[u8], m: usize) -> Result<Set, u64> {
     }
     Ok(Set {
         m,
+        line: line.into(),
         has_incurred,
         triangles,
     })
 }
 
-/// Questions 1, 5 and 7, and the set's records at the front of `out`.
+/// Questions 1, 3 (of the line), 5 and 7, and the set's records at the front of `out`.
 pub fn write_set(set: &Set, out: &mut [u8]) -> Result<(), u64> {
-    let m = set.m;
+    let (m, line) = (set.m, set.line);
     if !(2..=20).contains(&m) {
         return Err(1);
+    }
+    if line > 5 {
+        return Err(3);
     }
     let kinds = if set.has_incurred { 3 } else { 2 };
     let cells = || (1..=m).flat_map(|i| (0..=m - i).map(move |j| (i, j)));
@@ -97,7 +106,7 @@ pub fn write_set(set: &Set, out: &mut [u8]) -> Result<(), u64> {
     }
     let cells = (0..kinds).flat_map(|kind| cells().map(move |cell| (kind, cell)));
     for (record, (kind, (i, j))) in out.chunks_exact_mut(16).zip(cells) {
-        record[..8].copy_from_slice(&[kind as u8, i as u8, j as u8, 0, 0, 0, 0, 0]);
+        record[..8].copy_from_slice(&[kind as u8, i as u8, j as u8, line as u8, 0, 0, 0, 0]);
         record[8..].copy_from_slice(&value(kind, (i, j)).to_le_bytes());
     }
     Ok(())

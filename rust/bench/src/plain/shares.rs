@@ -78,9 +78,10 @@ pub struct Estimates {
     pub shares: Shares,
 }
 
-/// b and N of counts; q, g and U of paid.
+/// The line of the set; b and N of counts; q, g and U of paid.
 #[derive(Clone, Debug, PartialEq, Eq)]
 pub struct Shares {
+    pub line: u64,
     pub b: [i64; 20],
     pub n: [i64; 20],
     pub q: [i64; 20],
@@ -106,6 +107,7 @@ pub fn estimates(set: &Set) -> Result<Estimates, u64> {
         return Err(11);
     }
     let shares = Shares {
+        line: set.line,
         b: shares_of(m, &count_g),
         n: counts.ultimates(&count_g),
         q: shares_of(m, &g),

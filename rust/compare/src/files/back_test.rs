@@ -1,6 +1,6 @@
 //! The back-test.
 
-use super::{arguments, both_ways, fixed, method_and_basis};
+use super::{arguments, both_ways, fixed, method_and_basis, LentLine};
 use crate::difference::{same, Difference};
 use crate::memory::Memory;
 use crate::Counts;
@@ -15,14 +15,10 @@ pub fn compare(seed: u64, case: &Case, counts: &mut Counts) -> Result<bool, Diff
     });
 
     let mut memory = Memory::<u64>::new(seed, &[4]);
+    let mut line = LentLine::new(seed);
     let [sums] = memory.lists().map(fixed);
-    let refusal = calls::back_test(file, m, case.method, case.basis, c, sums);
-    same(
-        "back-test, refusal",
-        Some(refusal).filter(|&n| n != 0),
-        wanted.as_ref().err().copied(),
-        text,
-    )?;
+    let refusal = calls::back_test(file, m, case.method, case.basis, c, line.lent(), sums);
+    line.beside("back-test", refusal, &wanted, |test| test.line, text)?;
     let list = wanted
         .as_ref()
         .ok()
@@ -34,6 +30,7 @@ pub fn compare(seed: u64, case: &Case, counts: &mut Counts) -> Result<bool, Diff
         return Ok(refusal == 0);
     };
     let wanted = wanted.map(|wanted| BackTest {
+        line: wanted.line,
         cells: wanted.cells,
         cellwise: wanted.cellwise,
         yearwise: wanted.yearwise,

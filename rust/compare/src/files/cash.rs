@@ -1,10 +1,10 @@
 //! Cash by dates.
 
-use super::{both_ways, numbered};
+use super::{both_ways, numbered, LentLine};
 use crate::difference::{hexadecimal, same, Difference};
 use crate::memory::Memory;
 use crate::Counts;
-use pardesul::{calls, Basis, Date, Method};
+use pardesul::{calls, Basis, Cash, Date, Method};
 use reference::cash::{forecast_years, ForecastYears, Window};
 use reference::generate::{windows, Case};
 use std::collections::BTreeSet;
@@ -76,28 +76,28 @@ fn compare_window(
     years: &Result<ForecastYears, u64>,
     window: &Window,
     counts: &mut Counts,
-) -> Result<Result<i64, u64>, Difference> {
+) -> Result<Result<Cash, u64>, Difference> {
     let (file, m, method, basis) = (&case.file, case.m as usize, case.method, case.basis);
     let text = || {
         let (m, file) = (case.m, hexadecimal(file));
         format!("seed {seed}, m {m}, method {method}, basis {basis}, {window:?}, file {file}")
     };
     let wanted = counts.answer(seed, || match years {
-        Ok(years) => years.cash(window),
+        Ok(years) => Ok(Cash {
+            line: years.line,
+            amount: years.cash(window)?,
+        }),
         Err(refusal) => Err(*refusal),
     });
 
     let mut memory = Memory::<i64>::new(seed, &[1]);
+    let mut line = LentLine::new(seed);
     let [amount] = memory.lists();
     let dates = window.dates().map(|date| [date.year, date.month, date.day]);
-    let refusal = calls::cash_in_window(file, m, method, basis, &dates, &mut amount[0]);
-    same(
-        "cash, refusal",
-        Some(refusal).filter(|&n| n != 0),
-        wanted.err(),
-        text,
-    )?;
-    let list = wanted.ok().map(|amount| [amount]);
+    let refusal =
+        calls::cash_in_window(file, m, method, basis, &dates, line.lent(), &mut amount[0]);
+    line.beside("cash", refusal, &wanted, |cash| cash.line, text)?;
+    let list = wanted.ok().map(|cash| [cash.amount]);
     let lists = list.as_ref().map(|list| [&list[..]]);
     memory.holds("cash", lists.as_ref().map(|lists| &lists[..]), text)?;
 

@@ -1,15 +1,15 @@
 //! The claim costs, their floats by their bits.
 
-use super::{arguments, both_ways, fixed};
+use super::{arguments, both_ways, fixed, LentLine};
 use crate::difference::{same, Difference};
 use crate::memory::Memory;
 use crate::Counts;
 use pardesul::calls;
 use reference::generate::Case;
 
-/// mu, the factors and the inflations, of an inflation its kind and its ratio, 0 where there is
-/// none.
-type Bits = (u64, Vec<u64>, Vec<(u8, u64)>);
+/// The line, mu, the factors and the inflations, of an inflation its kind and its ratio, 0 where
+/// there is none.
+type Bits = (u64, u64, Vec<u64>, Vec<(u8, u64)>);
 
 pub fn compare(seed: u64, case: &Case, counts: &mut Counts) -> Result<bool, Difference> {
     let text = || arguments(seed, case);
@@ -18,15 +18,19 @@ pub fn compare(seed: u64, case: &Case, counts: &mut Counts) -> Result<bool, Diff
 
     let mut floats = Memory::new(seed, &[1, 20, 20]);
     let mut bytes = Memory::new(seed, &[20]);
+    let mut line = LentLine::new(seed);
     let [mu, factors, ratios] = floats.lists();
     let [kinds] = bytes.lists().map(fixed);
-    let refusal = calls::claim_costs(file, m, &mut mu[0], fixed(factors), kinds, fixed(ratios));
-    same(
-        "claim costs, refusal",
-        Some(refusal).filter(|&n| n != 0),
-        wanted.as_ref().err().copied(),
-        text,
-    )?;
+    let refusal = calls::claim_costs(
+        file,
+        m,
+        line.lent(),
+        &mut mu[0],
+        fixed(factors),
+        kinds,
+        fixed(ratios),
+    );
+    line.beside("claim costs", refusal, &wanted, |of| of.line, text)?;
     match &wanted {
         Ok(wanted) => {
             let years = wanted.inflations.map(of_reference);
@@ -45,6 +49,7 @@ pub fn compare(seed: u64, case: &Case, counts: &mut Counts) -> Result<bool, Diff
     let wanted = wanted.map(|wanted| -> Bits {
         let inflations = wanted.inflations[..m].iter().copied().map(of_reference);
         (
+            wanted.line,
             wanted.mu.to_bits(),
             bits(&wanted.factors[..m - 1]),
             inflations.collect(),
@@ -54,6 +59,7 @@ pub fn compare(seed: u64, case: &Case, counts: &mut Counts) -> Result<bool, Diff
         let found = found.map(|found| -> Bits {
             let inflations = found.inflations.iter().copied().map(of_library);
             (
+                found.line,
                 found.mu.to_bits(),
                 bits(&found.factors),
                 inflations.collect(),

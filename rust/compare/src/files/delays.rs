@@ -1,10 +1,10 @@
 //! The delays.
 
-use super::{arguments, both_ways, fixed};
+use super::{arguments, both_ways, fixed, LentLine};
 use crate::difference::{same, Difference};
 use crate::memory::Memory;
 use crate::Counts;
-use pardesul::calls;
+use pardesul::{calls, Delays};
 use reference::generate::Case;
 
 pub fn compare(seed: u64, case: &Case, counts: &mut Counts) -> Result<bool, Difference> {
@@ -13,18 +13,17 @@ pub fn compare(seed: u64, case: &Case, counts: &mut Counts) -> Result<bool, Diff
     let wanted = counts.answer(seed, || reference::delays(file, case.m));
 
     let mut memory = Memory::new(seed, &[20]);
+    let mut line = LentLine::new(seed);
     let [p] = memory.lists().map(fixed);
-    let refusal = calls::delays(file, m, p);
-    same(
-        "delays, refusal",
-        Some(refusal).filter(|&n| n != 0),
-        wanted.err(),
-        text,
-    )?;
-    let list = wanted.as_ref().ok().map(|p| [&p[..]]);
+    let refusal = calls::delays(file, m, line.lent(), p);
+    line.beside("delays", refusal, &wanted, |of| of.line, text)?;
+    let list = wanted.as_ref().ok().map(|of| [&of.p[..]]);
     memory.holds("delays", list.as_ref().map(|list| &list[..]), text)?;
 
-    let wanted = wanted.map(|p| p[..m].to_vec());
+    let wanted = wanted.map(|of| Delays {
+        line: of.line,
+        p: of.p[..m].to_vec(),
+    });
     for (way, found) in both_ways(case, pardesul::delays, |set| set.delays()) {
         same(&format!("delays {way}"), &found, &wanted, text)?;
     }

@@ -1,6 +1,6 @@
 //! The forecast.
 
-use super::{arguments, both_ways, fixed, method_and_basis};
+use super::{arguments, both_ways, fixed, method_and_basis, LentLine};
 use crate::difference::{same, Difference};
 use crate::memory::Memory;
 use crate::Counts;
@@ -16,14 +16,18 @@ pub fn compare(seed: u64, case: &Case, counts: &mut Counts) -> Result<bool, Diff
     });
 
     let mut memory = Memory::new(seed, &[room, 20]);
+    let mut line = LentLine::new(seed);
     let [out, leftovers] = memory.lists();
-    let refusal = calls::forecast(file, m, case.method, case.basis, out, fixed(leftovers));
-    same(
-        "forecast, refusal",
-        Some(refusal).filter(|&n| n != 0),
-        wanted.as_ref().err().copied(),
-        text,
-    )?;
+    let refusal = calls::forecast(
+        file,
+        m,
+        case.method,
+        case.basis,
+        line.lent(),
+        out,
+        fixed(leftovers),
+    );
+    line.beside("forecast", refusal, &wanted, |of| of.line, text)?;
     let lists = wanted
         .as_ref()
         .ok()
@@ -39,7 +43,8 @@ pub fn compare(seed: u64, case: &Case, counts: &mut Counts) -> Result<bool, Diff
     let wanted = wanted.map(|wanted| {
         let tally = reference::Tally::of_entries(&wanted.entries, m);
         let leftovers = wanted.leftovers[..m].to_vec();
-        (wanted.entries, leftovers, tally.rbns, tally.ibnr)
+        let tallied = (tally.rbns, tally.ibnr);
+        (wanted.line, wanted.entries, leftovers, tallied)
     });
     let ways = both_ways(
         case,
@@ -50,7 +55,8 @@ pub fn compare(seed: u64, case: &Case, counts: &mut Counts) -> Result<bool, Diff
         let found = found.map(|found| {
             let tally = found.tally();
             let entries = found.entries().to_vec();
-            (entries, found.leftovers, tally.rbns, tally.ibnr)
+            let tallied = (tally.rbns, tally.ibnr);
+            (found.line, entries, found.leftovers, tallied)
         });
         same(&format!("forecast {way}"), &found, &wanted, text)?;
     }

@@ -1,6 +1,6 @@
 //! Given delays: whether they stand, and the forecast with them.
 
-use super::{both_ways, fixed};
+use super::{both_ways, fixed, LentLine};
 use crate::difference::{hexadecimal, same, Difference};
 use crate::memory::Memory;
 use crate::Counts;
@@ -54,7 +54,7 @@ pub fn compare(seed: u64, case: &Case, counts: &mut Counts) -> Result<(), Differ
     for (given, delays) in given_delays(seed, &case.file, case.m) {
         let answers = asked.compare(seed, case, &delays, counts)?;
         match answers.check {
-            Ok(()) => accepted.insert(given),
+            Ok(_) => accepted.insert(given),
             Err(refusal) => checks.insert(refusal),
         };
         forecasts.extend(answers.forecast.err());
@@ -93,9 +93,9 @@ pub fn compare_file(
     with_solved(seed, &case)
 }
 
-/// The answers to given delays.
+/// The answers to given delays; that of the check is the line.
 struct Answers {
-    check: Result<(), u64>,
+    check: Result<u64, u64>,
     forecast: Result<Forecast, u64>,
 }
 
@@ -124,10 +124,10 @@ impl Asked<'_> {
         }
     }
 
-    /// Question 20.
-    fn check(&self, delays: &[i64]) -> Result<(), u64> {
+    /// Question 20, and the line.
+    fn check(&self, delays: &[i64]) -> Result<u64, u64> {
         match &self.estimated {
-            Ok(estimated) => estimated.given(delays).map(|_| ()),
+            Ok(estimated) => estimated.given(delays).map(|_| estimated.set.line),
             Err(refusal) => Err(*refusal),
         }
     }
@@ -151,13 +151,9 @@ impl Asked<'_> {
         let (method, basis, room) = (case.method, case.basis, case.out_len);
         let text = || arguments(seed, case, delays);
         let check = self.check(delays);
-        let refusal = calls::check_delays(self.file, case.m as usize, delays);
-        same(
-            "check, refusal",
-            Some(refusal).filter(|&n| n != 0),
-            check.err(),
-            text,
-        )?;
+        let mut line = LentLine::new(seed);
+        let refusal = calls::check_delays(self.file, case.m as usize, delays, line.lent());
+        line.beside("check", refusal, &check, |&line| line, text)?;
         let ways = both_ways(
             case,
             |file, m| pardesul::check_delays(file, m, delays),
@@ -182,7 +178,7 @@ impl Asked<'_> {
             _ => forecast.clone(),
         };
         let m = case.m as usize;
-        let wanted = wanted.map(|of| (of.entries, of.leftovers[..m].to_vec()));
+        let wanted = wanted.map(|of| (of.line, of.entries, of.leftovers[..m].to_vec()));
         if let (Ok(method), Ok(basis)) = (Method::try_from(method), Basis::try_from(basis)) {
             let ways = both_ways(
                 case,
@@ -190,7 +186,7 @@ impl Asked<'_> {
                 |set| set.forecast_with_delays(method, basis, delays),
             );
             for (way, found) in ways {
-                let found = found.map(|of| (of.entries().to_vec(), of.leftovers));
+                let found = found.map(|of| (of.line, of.entries().to_vec(), of.leftovers));
                 same(&format!("with delays {way}"), &found, &wanted, text)?;
             }
         }
@@ -214,15 +210,19 @@ impl Asked<'_> {
             format!("under method {method}, basis {basis}: {arguments}")
         };
         let mut memory = Memory::new(seed, &[room, 20]);
+        let mut line = LentLine::new(seed);
         let [out, leftovers] = memory.lists();
-        let refusal =
-            calls::forecast_with_delays(file, m, method, basis, delays, out, fixed(leftovers));
-        same(
-            "with delays, refusal",
-            Some(refusal).filter(|&n| n != 0),
-            wanted.as_ref().err().copied(),
-            text,
-        )?;
+        let refusal = calls::forecast_with_delays(
+            file,
+            m,
+            method,
+            basis,
+            delays,
+            line.lent(),
+            out,
+            fixed(leftovers),
+        );
+        line.beside("with delays", refusal, wanted, |of| of.line, text)?;
         let lists = wanted.as_ref().ok();
         let lists = lists.map(|of| [&of.entries[..], &of.leftovers]);
         memory.holds("with delays", lists.as_ref().map(|lists| &lists[..]), text)?;
@@ -239,19 +239,37 @@ impl Asked<'_> {
 /// With the delays that the library solves, it answers as it does without any.
 fn with_solved(seed: u64, case: &Case) -> Result<(), Difference> {
     let (file, m, method, basis) = (&case.file, case.m as usize, case.method, case.basis);
-    let mut p = [0; 20];
-    if calls::delays(file, m, &mut p) != 0 {
+    let (mut solved, mut p) = (0, [0; 20]);
+    if calls::delays(file, m, &mut solved, &mut p) != 0 {
         return Ok(());
     }
     let delays = &p[..m];
     let text = || arguments(seed, case, delays);
     let [mut with, mut without] = [(); 2].map(|()| Memory::new(seed, &[case.out_len, 20]));
+    let [mut line, mut plain_line] = [seed; 2];
     let [out, leftovers] = with.lists();
-    let refusal =
-        calls::forecast_with_delays(file, m, method, basis, delays, out, fixed(leftovers));
+    let refusal = calls::forecast_with_delays(
+        file,
+        m,
+        method,
+        basis,
+        delays,
+        &mut line,
+        out,
+        fixed(leftovers),
+    );
     let [plain_out, plain_leftovers] = without.lists();
-    let plain_refusal = calls::forecast(file, m, method, basis, plain_out, fixed(plain_leftovers));
+    let plain_refusal = calls::forecast(
+        file,
+        m,
+        method,
+        basis,
+        &mut plain_line,
+        plain_out,
+        fixed(plain_leftovers),
+    );
     same("solved delays, refusal", refusal, plain_refusal, text)?;
+    same("solved delays, line", line, plain_line, text)?;
     same("solved delays, output", &*out, &*plain_out, text)?;
     same(
         "solved delays, leftovers",
@@ -259,10 +277,12 @@ fn with_solved(seed: u64, case: &Case) -> Result<(), Difference> {
         &*plain_leftovers,
         text,
     )?;
+    let mut checked = seed;
+    let refusal = calls::check_delays(file, m, delays, &mut checked);
     same(
         "solved delays, check",
-        calls::check_delays(file, m, delays),
-        0,
+        (refusal, checked),
+        (0, solved),
         text,
     )
 }

@@ -6,6 +6,7 @@ mod claim_costs;
 mod delays;
 mod forecast;
 mod given_delays;
+mod line;
 mod page;
 mod reader;
 mod shares;
@@ -13,10 +14,11 @@ mod shares;
 pub use cash::compare_file as cash_in_window;
 pub use given_delays::compare_file as forecast_with_delays;
 pub use page::compare_file as closing_page;
-pub use reader::compare_file as read_set;
+pub use reader::{compare_file as read_set, natural};
 
 use crate::difference::{hexadecimal, same, Difference};
 use crate::Counts;
+use line::LentLine;
 use pardesul::{Basis, Method, Refusal, TriangleSet};
 use reference::generate::{case, set_of, shuffled_file, Case, Random};
 

@@ -1,6 +1,6 @@
 //! Shares and ultimates.
 
-use super::{arguments, both_ways, fixed};
+use super::{arguments, both_ways, fixed, LentLine};
 use crate::difference::{same, Difference};
 use crate::memory::Memory;
 use crate::Counts;
@@ -13,14 +13,10 @@ pub fn compare(seed: u64, case: &Case, counts: &mut Counts) -> Result<bool, Diff
     let wanted = counts.answer(seed, || reference::shares(file, case.m));
 
     let mut memory = Memory::new(seed, &[20; 5]);
+    let mut line = LentLine::new(seed);
     let [b, n, q, g, u] = memory.lists().map(fixed);
-    let refusal = calls::shares(file, m, b, n, q, g, u);
-    same(
-        "shares, refusal",
-        Some(refusal).filter(|&n| n != 0),
-        wanted.as_ref().err().copied(),
-        text,
-    )?;
+    let refusal = calls::shares(file, m, line.lent(), b, n, q, g, u);
+    line.beside("shares", refusal, &wanted, |of| of.line, text)?;
     let lists = wanted
         .as_ref()
         .ok()
@@ -29,6 +25,7 @@ pub fn compare(seed: u64, case: &Case, counts: &mut Counts) -> Result<bool, Diff
 
     let first = |list: &[i64; 20]| list[..m].to_vec();
     let wanted = wanted.map(|of| Shares {
+        line: of.line,
         b: first(&of.b),
         n: first(&of.n),
         q: first(&of.q),

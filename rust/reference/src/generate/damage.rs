@@ -108,6 +108,40 @@ fn any_record<'a>(random: &mut Random, file: &'a mut [u8]) -> &'a mut [u8] {
     &mut file[at..at + 16]
 }
 
+/// Puts all records of a file on one line.
+pub fn put_on_line(file: &mut [u8], line: u8) {
+    file.chunks_exact_mut(16)
+        .for_each(|record| record[3] = line);
+}
+
+/// Damages the lines of cover, or a byte behind one, so that question 3 refuses.
+pub fn damage_lines(random: &mut Random, file: &mut [u8]) {
+    let last = file.len() - 16;
+    match random.below(5) {
+        // One record on another line: any, the first, the last.
+        0 => {
+            let record = any_record(random, file);
+            record[3] = other_line(random, record[3]);
+        }
+        1 => file[3] = other_line(random, file[3]),
+        2 => file[last + 3] = other_line(random, file[last + 3]),
+        // All on a line that there is not.
+        3 => put_on_line(file, random.pick(&[6, 7, 128, 255])),
+        // A spare byte that is not zero.
+        _ => {
+            let spare = 4 + random.below(4);
+            any_record(random, file)[spare] = random.pick(&[1, 5, 128, 255]);
+        }
+    }
+}
+
+/// A line that is not this one, mostly one that there is.
+fn other_line(random: &mut Random, line: u8) -> u8 {
+    let mut lines = vec![0, 1, 2, 3, 4, 5, 6, 255];
+    lines.retain(|&other| other != line);
+    random.pick(&lines)
+}
+
 /// Damages the file so that one of questions 2 to 5 refuses, or rarely none.
 pub fn damage(random: &mut Random, file: &mut Vec<u8>) {
     if file.len() < 32 {
@@ -122,8 +156,9 @@ pub fn damage(random: &mut Random, file: &mut Vec<u8>) {
         5 => any_record(random, file)[1] = random.pick(&[0, 1, 2, 20, 21, 255]),
         6 => any_record(random, file)[2] = random.pick(&[0, 1, 2, 19, 20, 255]),
         7 => {
-            let padding = 3 + random.below(5);
-            any_record(random, file)[padding] = random.pick(&[1, 128, 255]);
+            // Another line, or a spare byte that is not zero.
+            let at = 3 + random.below(5);
+            any_record(random, file)[at] ^= random.pick(&[1, 128, 255]);
         }
         8 => {
             let copied = any_record(random, file).to_vec();

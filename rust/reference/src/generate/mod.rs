@@ -13,6 +13,7 @@ mod random;
 mod sets;
 mod windows;
 
+pub use damage::put_on_line;
 pub use faults::{Fault, PAIRS};
 pub use given_delays::{given_delays, next_values, solved_delays, Given, LIMIT};
 pub use journals::{any_journal, journal_case, JournalCase, Made, Spot};
@@ -25,6 +26,7 @@ use crate::cash::ForecastYears;
 use crate::forecast::{entry_count, forecast};
 use crate::halves::{add, during, Halves};
 use crate::records::{cells, file_length, place, write_set, Refusal, Set, Values};
+use sets::any_line;
 use std::collections::BTreeMap;
 use std::ops::Range;
 
@@ -52,9 +54,21 @@ pub fn case(seed: u64) -> Case {
         _ => {}
     }
     let mut file = shuffled_file(&mut random, &set);
+    // Lines have a source of their own, so that nothing else hangs on them. Now and then the file
+    // is on another line than the set was.
+    let mut lines = random.aside();
+    if lines.one_in(8) {
+        put_on_line(&mut file, any_line(&mut lines) as u8);
+    }
     if random.one_in(5) {
+        let whole = file.clone();
         for _ in 0..random.between(1, 3) {
             damage::damage(&mut random, &mut file);
+        }
+        // In place of every other wrong length.
+        if file.len() != whole.len() && lines.one_in(2) {
+            file = whole;
+            damage::damage_lines(&mut lines, &mut file);
         }
     }
     let m = set.m as u64;
@@ -146,6 +160,7 @@ pub fn file(set: &Set) -> Vec<u8> {
     let mut bytes = vec![0; file_length(set.m, set.has_incurred)];
     write_set(
         set.m as u64,
+        set.line,
         set.has_incurred,
         &set.counts,
         &set.paid,
@@ -168,6 +183,7 @@ pub fn shuffled_file(random: &mut Random, set: &Set) -> Vec<u8> {
 #[derive(Clone, Debug)]
 pub struct WriterCase {
     pub m: u64,
+    pub line: u64,
     pub has_incurred: bool,
     pub counts: Values,
     pub paid: Values,
@@ -176,7 +192,7 @@ pub struct WriterCase {
 }
 
 /// The writer's case of a seed: anything stands outside the cells, and now and then a cell is
-/// out of range, m is wrong or the output is short.
+/// out of range, m or the line is wrong or the output is short.
 pub fn writer_case(seed: u64) -> WriterCase {
     let mut random = Random::new(seed);
     let set = any_set(&mut random);
@@ -195,6 +211,7 @@ pub fn writer_case(seed: u64) -> WriterCase {
         *written.triangle_mut(kind) = values;
     }
     WriterCase {
+        line: mostly(&mut random.aside(), set.line, &[6, 255, 256, 257, u64::MAX]),
         m: mostly(&mut random, m, &[0, 1, 21, m + 256, u64::MAX]),
         has_incurred: set.has_incurred,
         counts: written.counts,

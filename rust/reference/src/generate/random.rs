@@ -7,6 +7,11 @@ impl Random {
         Random(seed)
     }
 
+    /// Another source, which starts from where this one stands and does not move it.
+    pub fn aside(&self) -> Random {
+        Random(self.0 ^ (1 << 47))
+    }
+
     pub fn number(&mut self) -> u64 {
         self.0 = self.0.wrapping_add(0x9e37_79b9_7f4a_7c15);
         let mut z = self.0;

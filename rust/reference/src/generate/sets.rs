@@ -77,11 +77,22 @@ fn any_frame(random: &mut Random) -> (Set, Shape) {
     (set, shape)
 }
 
-/// A set of any size and any shape but `Halves`, with or without incurred.
+/// A set of any size, any line and any shape but `Halves`, with or without incurred.
 pub fn any_set(random: &mut Random) -> Set {
-    let (mut set, shape) = any_frame(random);
+    let frame = any_frame(random);
+    filled(random, frame)
+}
+
+/// The set of a frame, on any line; that has a source of its own, so that no cell hangs on it.
+fn filled(random: &mut Random, (mut set, shape): (Set, Shape)) -> Set {
     shape.fill(random, &mut set);
+    set.line = any_line(&mut random.aside());
     set
+}
+
+/// A line of cover, line 0 a little more often than another.
+pub fn any_line(random: &mut Random) -> u64 {
+    random.pick(&[0, 0, 1, 2, 3, 4, 5])
 }
 
 /// Those of a seed: each eighth one is for halves.
@@ -95,9 +106,8 @@ fn frame(seed: u64, random: &mut Random) -> (Set, Shape) {
 
 /// The set of a seed.
 pub fn set_of(seed: u64, random: &mut Random) -> Set {
-    let (mut set, shape) = frame(seed, random);
-    shape.fill(random, &mut set);
-    set
+    let frame = frame(seed, random);
+    filled(random, frame)
 }
 
 /// Its shape.

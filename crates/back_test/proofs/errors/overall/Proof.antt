@@ -13,7 +13,7 @@ use Rattle.integers.specs.Sums.{sum}
 use Rattle.model.specs.Records.{cell}
 use Rattle.model.specs.BackTest.{overall}
 use Rattle.arithmetic.specs.Words.{fits-abs}
-use Rattle.chain_ladder.specs.Running.{sum-none, held, sum-more}
+use Rattle.arithmetic.specs.Running.{sum-none, held, sum-more}
 use Rattle.back_test.specs.Gaps.{SmallGaps}
 use Rattle.back_test.specs.ErrorsLaws.{all-small}
 use Rattle.back_test.proofs.errors.overall.Statement.{statement}

@@ -12,7 +12,7 @@ use Rattle.integers.specs.Sums.{sum}
 use Rattle.model.specs.Lists.{at}
 use Rattle.model.specs.Records.{cell}
 use Rattle.arithmetic.specs.Words.{fits-abs}
-use Rattle.chain_ladder.specs.Running.{sum-none, held, sum-more}
+use Rattle.arithmetic.specs.Running.{sum-none, held, sum-more}
 use Rattle.back_test.specs.Gaps.{SmallGaps}
 use Rattle.back_test.specs.ErrorsLaws.{row-gap-small}
 use Rattle.back_test.proofs.errors.row_gap.Statement.{statement}

@@ -11,7 +11,7 @@ use mir.Facts.{toZ-ofZ}
 use Rattle.integers.specs.Sums.{sum}
 use Rattle.model.specs.BackTest.{yearGap}
 use Rattle.arithmetic.specs.Words.{fits-abs}
-use Rattle.chain_ladder.specs.Running.{sum-none, held, sum-more}
+use Rattle.arithmetic.specs.Running.{sum-none, held, sum-more}
 use Rattle.back_test.specs.Gaps.{SmallGaps, rowInYear}
 use Rattle.back_test.specs.ErrorsLaws.{year-small}
 use Rattle.back_test.proofs.errors.year_gap.Statement.{statement}

@@ -12,11 +12,11 @@ use mir.Facts.{toZ-ofZ}
 use Rattle.model.specs.Lists.{at, listed}
 use Rattle.model.specs.ListsLaws.{listed-none, listed-whole}
 use Rattle.model.specs.Lent.{triangleIn}
-use Rattle.cells.specs.declared.cell.Cell.{Cell}
+use Rattle.cells.specs.declared.Cell.{Cell}
 use Rattle.cells.specs.CellOf.{sumsFrom, cellOf}
-use Rattle.cells.specs.Ready.{yearWeights}
+use Rattle.years.specs.Ready.{yearWeights}
 use Rattle.cells.specs.SumsFromLaws.{no-sums}
-use Rattle.cells.specs.ReadyLaws.{counted, estimated, same-weights, year, shares-fit}
+use Rattle.years.specs.ReadyLaws.{counted, estimated, same-weights, year, shares-fit}
 use Rattle.back_test.specs.Gaps as Gaps
 use Rattle.back_test.specs.Gaps.{cellFrom, gapAt}
 use Rattle.back_test.specs.GapsLaws.{not-compared, listed-skip}

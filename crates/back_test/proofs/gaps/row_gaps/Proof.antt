@@ -18,7 +18,7 @@ use Rattle.model.specs.ListsLaws.{listed-next}
 use Rattle.model.specs.Records.{cell}
 use Rattle.model.specs.Lent.{triangleIn, at-triangle}
 use Rattle.arithmetic.specs.Words.{fits-abs}
-use Rattle.cells.specs.declared.cell.Cell.{Cell}
+use Rattle.cells.specs.declared.Cell.{Cell}
 use Rattle.cells.specs.CellOf.{cellOf}
 use Rattle.cells.specs.SmallLaws.{cell-small}
 use Rattle.back_test.specs.Gaps.{gapFrom}

@@ -12,14 +12,14 @@ back-test-requires c κs = search needs
 
 returns : tie.Need-returns
 returns c =
-    let e = c .before .back-test .ensures in
-    (ap (λ (a : BackTestAnswer). a .refusal) e, (rw (ne-eqb _ 0 (c .if1 .taken)), (rw (ne-eqb _ 0 (c .if1 .taken)), (rw (ne-eqb _ 0 (c .if1 .taken)), rw (ne-eqb _ 0 (c .if1 .taken))))))
+    let k = ne-eqb _ 0 (c .if1 .taken) in
+    (ap (λ (a : BackTestAnswer). a .refusal) (c .before .back-test .ensures), (rw k, (rw k, (rw k, (rw k, rw k)))))
 
 returns-2 : tie.Need-returns-2
 returns-2 c =
     let e = c .before .back-test .ensures in (
       sym (c .if1 .left) ∙ ap (λ (a : BackTestAnswer). a .refusal) e,
-      (ap (λ (a : BackTestAnswer). a .cells) e, (ap (λ (a : BackTestAnswer). a .cellwise) e, (ap (λ (a : BackTestAnswer). a .yearwise) e, ap (λ (a : BackTestAnswer). a .overall) e))),
+      (ap (λ (a : BackTestAnswer). a .line) e, (ap (λ (a : BackTestAnswer). a .cells) e, (ap (λ (a : BackTestAnswer). a .cellwise) e, (ap (λ (a : BackTestAnswer). a .yearwise) e, ap (λ (a : BackTestAnswer). a .overall) e)))),
     )
 
 pub pardesul-back-test-spec : {M : Type 1} → statement M

@@ -23,16 +23,16 @@ abbrev ratioAt : List YearInflation → ℕ → Float
 ratioAt list k = ratioOf (inflationAt list k)
 
 abbrev Inv-loop : tie.InvT-loop
-Inv-loop file m mu factors kinds₀ ratios₀ refusal inflations k₀ kinds ratios k =
+Inv-loop file m line mu factors kinds₀ ratios₀ refusal inflations k₀ kinds ratios k =
     (k ≤ 20) × (kinds ≡ listed 20 k (kindAt inflations) 0) × (ratios ≡ listed 20 k (ratioAt inflations) noFloat)
 
 abbrev μ-loop : tie.MeasureT-loop
-μ-loop file m mu factors kinds₀ ratios₀ refusal inflations k₀ kinds ratios k = 20 - k
+μ-loop file m line mu factors kinds₀ ratios₀ refusal inflations k₀ kinds ratios k = 20 - k
 
 returns : tie.Need-returns Inv-loop μ-loop
 returns c =
     let k = ne-eqb _ 0 (c .if1 .taken) in
-    (ap (λ (a : ClaimCostsAnswer). a .refusal) (c .before .claim-costs .ensures), (rw k, (rw k, (rw k, rw k))))
+    (ap (λ (a : ClaimCostsAnswer). a .refusal) (c .before .claim-costs .ensures), (rw k, (rw k, (rw k, (rw k, rw k)))))
 
 loop-holds : tie.Need-loop-holds Inv-loop μ-loop
 unfolding ofBits
@@ -55,12 +55,15 @@ returns-2 c =
     let all : l .k ≡ 20 = omega arith in (
       sym (d .if1 .left) ∙ ap (λ (a : ClaimCostsAnswer). a .refusal) e,
       (
-        ap (λ (a : ClaimCostsAnswer). a .costs .mu) e,
+        ap (λ (a : ClaimCostsAnswer). a .line) e,
         (
-          ap (λ (a : ClaimCostsAnswer). a .costs .factors) e,
+          ap (λ (a : ClaimCostsAnswer). a .costs .mu) e,
           (
-            rw all at (l .inv .1) ∙ listed-whole 20 _ 0 ∙ ap (λ (a : ClaimCostsAnswer). kindsOf (a .costs .inflations)) e,
-            rw all at (l .inv .2) ∙ listed-whole 20 _ noFloat ∙ ap (λ (a : ClaimCostsAnswer). ratiosOf (a .costs .inflations)) e,
+            ap (λ (a : ClaimCostsAnswer). a .costs .factors) e,
+            (
+              rw all at (l .inv .1) ∙ listed-whole 20 _ 0 ∙ ap (λ (a : ClaimCostsAnswer). kindsOf (a .costs .inflations)) e,
+              rw all at (l .inv .2) ∙ listed-whole 20 _ noFloat ∙ ap (λ (a : ClaimCostsAnswer). ratiosOf (a .costs .inflations)) e,
+            ),
           ),
         ),
       ),

@@ -1,10 +1,11 @@
--- `pardesul_read_set` meets its contract: a refusal stores nothing, and an accepted file stores the
--- triangles of its set. Assumes nothing.
+-- `pardesul_read_set` meets its contract: a refusal stores nothing, and an accepted file stores its
+-- set. Assumes nothing.
 use borrow.Author.Needs.{needs}
 use borrow.Author.Tests.{ne-eqb}
 use mathlib.Core.Path.{_≡_, refl, ap, _∙_}
 use mathlib.Core.Bool.{Bool, true, false, cond}
 use mir.Val.{boolByte}
+use Rattle.model.specs.Records.{setOf}
 use Rattle.model.specs.declared.ReadAnswer.{ReadAnswer}
 use Rattle.triangles.specs.LentLaws.{read-no, read-size, read-yes}
 use Rattle.c_api.proofs.sets.pardesul_read_set.Statement.{statement}
@@ -21,7 +22,7 @@ returns : tie.Need-returns
 returns c =
     let k = ne-eqb _ 0 (c .if1 .taken) in
     let e = read-no _ _ _ _ (c .before .read-cells .ensures) (c .if1 .taken) in
-    (ap (λ (a : ReadAnswer). a .refusal) e, (rw k, (rw k, (rw k, rw k))))
+    (ap (λ (a : ReadAnswer). a .refusal) e, (rw k, (rw k, (rw k, (rw k, rw k)))))
 
 copy-kind-requires : tie.Need-copy-kind-requires
 copy-kind-requires c κs = search needs
@@ -34,24 +35,29 @@ copy-kind-requires-3 c κs = search needs
 
 has-incurred-requires : tie.Need-has-incurred-requires
 has-incurred-requires c κs =
-    let o = c .before .before .before .before .before .before .before .before .before in
+    let o = c .before .before .before .before .before .before .before .before .before .before in
     read-size _ _ _ _ (o .before .read-cells .ensures) (o .if1 .left)
 
 cast-has-incurred : tie.Need-cast-has-incurred
 cast-has-incurred c = search needs
 
 returns-2 : tie.Need-returns-2
+unfolding setOf
 returns-2 c =
-    let two = c .before .before .before .before in
+    let v = c .before in
+    let two = v .before .before .before .before in
     let one = two .before .before .before in
     let o = one .before .before .before in
     let e = read-yes _ _ _ _ (o .before .read-cells .ensures) (o .if1 .left) in (
       ap (λ (a : ReadAnswer). a .refusal) e,
       (
-        as-number (c .has-incurred .result) ∙ ap (λ (t : Bool). cond t 1 0) (c .has-incurred .ensures ∙ ap (λ (a : ReadAnswer). a .set .«has_incurred») e),
+        v .line .ensures ∙ ap (λ (a : ReadAnswer). a .set .line) e,
         (
-          one .copy-kind .ensures ∙ ap (λ (a : ReadAnswer). a .set .counts) e,
-          (two .copy-kind2 .ensures ∙ ap (λ (a : ReadAnswer). a .set .paid) e, c .before .copy-kind3 .ensures ∙ ap (λ (a : ReadAnswer). a .set .incurred) e),
+          as-number (c .has-incurred .result) ∙ ap (λ (t : Bool). cond t 1 0) (c .has-incurred .ensures ∙ ap (λ (a : ReadAnswer). a .set .«has_incurred») e),
+          (
+            one .copy-kind .ensures ∙ ap (λ (a : ReadAnswer). a .set .counts) e,
+            (two .copy-kind2 .ensures ∙ ap (λ (a : ReadAnswer). a .set .paid) e, v .before .copy-kind3 .ensures ∙ ap (λ (a : ReadAnswer). a .set .incurred) e),
+          ),
         ),
       ),
     )
@@ -65,6 +71,7 @@ pardesul-read-set-spec =
     copy-kind-requires
     copy-kind-requires-2
     copy-kind-requires-3
+    (λ c κs. search needs)
     has-incurred-requires
     cast-has-incurred
     returns-2)

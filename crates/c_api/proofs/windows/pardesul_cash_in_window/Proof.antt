@@ -1,5 +1,5 @@
 -- `pardesul_cash_in_window` meets its contract: a refusal stores nothing, and an accepted window
--- stores its amount. Assumes nothing.
+-- stores its line and its amount. Assumes nothing.
 use borrow.Author.Needs.{needs}
 use borrow.Author.Tests.{ne-eqb}
 use denote.Ref.{now}
@@ -28,12 +28,16 @@ module _ (c : tie.After-cash-in-window) where
   answer-is = c .cash-in-window .ensures ∙ of-dates _ _ _ _ (c .before .before .before .date .ensures) (c .before .before .date2 .ensures) (c .before .date3 .ensures)
 
 returns : tie.Need-returns
-returns c = (ap (λ (x : CashAnswer). x .refusal) (answer-is (c .before)), rw (ne-eqb _ 0 (c .if1 .taken)))
+returns c =
+    let k = ne-eqb _ 0 (c .if1 .taken) in
+    (ap (λ (x : CashAnswer). x .refusal) (answer-is (c .before)), (rw k, rw k))
 
 returns-2 : tie.Need-returns-2
 returns-2 c =
-    let b = c .before .before in
-    (sym (c .before .if1 .left) ∙ ap (λ (x : CashAnswer). x .refusal) (answer-is b), toZ-ofZ (record { sfits = c .struct-told .given .1 .0 .1 }) ∙ ap (λ (x : CashAnswer). x .amount) (answer-is b))
+    let b = c .before .before in (
+      sym (c .before .if1 .left) ∙ ap (λ (x : CashAnswer). x .refusal) (answer-is b),
+      (ap (λ (x : CashAnswer). x .line) (answer-is b), toZ-ofZ (record { sfits = c .struct-told .given .1 .1 .0 .1 }) ∙ ap (λ (x : CashAnswer). x .amount) (answer-is b)),
+    )
 
 pub pardesul-cash-in-window-spec : {M : Type 1} → statement M
 pardesul-cash-in-window-spec =

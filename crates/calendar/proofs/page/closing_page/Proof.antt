@@ -6,7 +6,7 @@ use Prim.Native.Nat.{ℕ, _≤_}
 use native.Mathlib.Omega.{arith}
 use denote.Ref.{now}
 use lib.IntN.{ℤ}
-use Rattle.model.specs.Records.{setOf, hasIncurred}
+use Rattle.model.specs.Records.{setOf}
 use Rattle.model.specs.Lent.{lentSet}
 use Rattle.model.specs.Cells.{size}
 use Rattle.model.specs.CellsLaws.{size-most}
@@ -74,20 +74,20 @@ module _ (c : tie.After-forecast-set) where
   abbrev passed : settingsRefusal (m base) (f base) (start base .args .method) (start base .args .basis) ≡ 0
   passed = passed-settings (base .read-to-forecast .ensures) (read .if1 .left)
 
-  abbrev set : lentSet (hasIncurred (m base) (f base)) (base .read-to-forecast .last .1 .1 .1 .1 .0) ≡ setOf (m base) (f base)
+  abbrev set : lentSet (setOf (m base) (f base)) (base .read-to-forecast .last .1 .1 .1 .1 .0) ≡ setOf (m base) (f base)
   set = base .read-to-forecast .ensures .holds (read .if1 .left)
 
   small : c .forecast-set .result ≡ 0 → (2 ≤ m base) × (m base ≤ 20) × (size (m base) ≤ 1560) × Small (m base) out
-  small = set-small (m base) (f base) (start base .args .method) (start base .args .basis) passed set (c .forecast-set .ensures .0 (hasIncurred (m base) (f base)))
+  small = set-small (m base) (f base) (start base .args .method) (start base .args .basis) passed set (c .forecast-set .ensures .0 (setOf (m base) (f base)))
 
   printable : c .forecast-set .result ≡ 0 → Printable (m base) (tallyOf (m base) out)
-  printable = forecast-printable (m base) (f base) (start base .args .method) (start base .args .basis) (page base) passed (enough .if2 .left) set (c .forecast-set .ensures .0 (hasIncurred (m base) (f base)))
+  printable = forecast-printable (m base) (f base) (start base .args .method) (start base .args .basis) (page base) passed (enough .if2 .left) set (c .forecast-set .ensures .0 (setOf (m base) (f base)))
 
 returns-3 : tie.Need-returns-3
 returns-3 c =
     let w = c .before .before in
     let b = base w in
-    set-refused (m b) (f b) (start b .args .method) (start b .args .basis) (page b) (passed w) (enough w .if2 .left) (set w) (w .forecast-set .ensures .0 (hasIncurred (m b) (f b))) (c .if3 .taken)
+    set-refused (m b) (f b) (start b .args .method) (start b .args .basis) (page b) (passed w) (enough w .if2 .left) (set w) (w .forecast-set .ensures .0 (setOf (m b) (f b))) (c .if3 .taken)
 
 tally-of-requires : tie.Need-tally-of-requires
 tally-of-requires c κs =
@@ -110,7 +110,7 @@ returns-4 c =
     let e = t .before .before in
     let w = e .before .before in
     let b = base w in
-    page-written (m b) (f b) (start b .args .method) (start b .args .basis) (page b) (passed w) (enough w .if2 .left) (set w) (w .forecast-set .ensures .0 (hasIncurred (m b) (f b))) (e .if3 .left)
+    page-written (m b) (f b) (start b .args .method) (start b .args .basis) (page b) (passed w) (enough w .if2 .left) (set w) (w .forecast-set .ensures .0 (setOf (m b) (f b))) (e .if3 .left)
     (rw (t .tally-of .ensures) at (p .write-page .ensures))
 
 pub closing-page-spec : {M : Type 1} → statement M

@@ -9,7 +9,7 @@ use mir.Val.{SFits, toZ, ofZ}
 use mir.Facts.{toZ-ofZ}
 use Rattle.integers.specs.Sums.{sum}
 use Rattle.model.specs.Lists.{at}
-use Rattle.chain_ladder.specs.Running.{sum-none, sum-fits, held, sum-more}
+use Rattle.arithmetic.specs.Running.{sum-none, sum-fits, held, sum-more}
 use Rattle.chain_ladder.proofs.sums.spaced_sum.Statement.{statement}
 use Rattle.chain_ladder.proofs.sums.spaced_sum.Tie as tie
 

@@ -18,7 +18,7 @@ use Rattle.chain_ladder.specs.Sums.{Small, latests, aSums, bSums}
 use Rattle.chain_ladder.specs.LadderLaws.{at-latests}
 use Rattle.chain_ladder.specs.SumsLaws.{B-first, A-next, B-next, A-small, B-small, column-sum, column-spaced}
 use Rattle.arithmetic.specs.Words.{fits-abs}
-use Rattle.chain_ladder.specs.Running.{held}
+use Rattle.arithmetic.specs.Running.{held}
 use Rattle.chain_ladder.proofs.sums.sums.Statement.{statement}
 use Rattle.chain_ladder.proofs.sums.sums.Tie as tie
 

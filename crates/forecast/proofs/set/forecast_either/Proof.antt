@@ -1,7 +1,7 @@
 -- `forecast::set::forecast_either` meets its contract: what the methods share, and then the
 -- forecast from it; and demand 3. Assumes nothing.
 use mathlib.Core.Path.{refl, sym, _∙_, ap}
-use mathlib.Core.Bool.{Bool, true}
+use mathlib.Core.Bool.{Bool}
 use mathlib.Core.List.{List}
 use Prim.Native.Nat.{ℕ}
 use borrow.Author.Needs.{needs}
@@ -9,7 +9,7 @@ use denote.Ref.{now}
 use lib.IntN.{ℤ}
 use Rattle.model.specs.Cells.{outputFrom}
 use Rattle.model.specs.Questions.{firstNo}
-use Rattle.model.specs.Calls.{ifAccepted}
+use Rattle.model.specs.Calls.{ifAccepted, noSet}
 use Rattle.model.specs.CallsLaws.{if-refused}
 use Rattle.model.specs.Lent.{lentSet, triangleIn}
 use Rattle.model.specs.declared.TriangleSet.{TriangleSet}
@@ -33,16 +33,16 @@ module _ (c : tie.After-prepare-from) where
   abbrev lent : List ℤ
   lent = now (start .args .lent)
 
-  abbrev s : Bool → TriangleSet
-  s has = lentSet has (now (start .args .set))
+  abbrev s : TriangleSet → TriangleSet
+  s like = lentSet like (now (start .args .set))
 
 returns : tie.Need-returns
 returns c =
     let b = c .before in
     let e = b .prepare-from .ensures .refusal in
     let o = c .if1 .taken in (
-      λ has. record {
-        refusal = e ∙ sym (by-either (m b) (s b has) (start b .args .method) (given b) (lent b) (λ z. o (e ∙ z)));
+      λ like. record {
+        refusal = e ∙ sym (by-either (m b) (s b like) (start b .args .method) (given b) (lent b) (λ z. o (e ∙ z)));
         leftovers-are = sym (if-refused _ _ _ o);
         output = sym (if-refused _ _ _ o);
       },
@@ -71,20 +71,20 @@ module _ (c : tie.After-forecast-prepared) where
   abbrev two : tie.After-prepare-from
   two = one else1
 
-  answered : (has : Bool) → Answered (firstNo (ofEither (m two) (s two has) (given two) (lent two) (start two .args .method))) (m two) (s two has) (eitherDelays (m two) (s two has) (given two) (lent two)) (start two .args .method) (start two .args .basis) (c .forecast-prepared .result) (now (start two .args .leftovers)) (c .forecast-prepared .last .1 .1 .1 .1 .1 .1 .1 .1 .1 .0) (now (start two .args .out)) (c .forecast-prepared .last .1 .1 .1 .1 .1 .1 .1 .1 .1 .1 .0)
-  answered has =
-      let a = c .forecast-prepared .ensures has in
+  answered : (like : TriangleSet) → Answered (firstNo (ofEither (m two) (s two like) (given two) (lent two) (start two .args .method))) (m two) (s two like) (eitherDelays (m two) (s two like) (given two) (lent two)) (start two .args .method) (start two .args .basis) (c .forecast-prepared .result) (now (start two .args .leftovers)) (c .forecast-prepared .last .1 .1 .1 .1 .1 .1 .1 .1 .1 .0) (now (start two .args .out)) (c .forecast-prepared .last .1 .1 .1 .1 .1 .1 .1 .1 .1 .1 .0)
+  answered like =
+      let a = c .forecast-prepared .ensures like in
       let by = two .prepare-from .ensures in
       let z = else1 .if1 .left in
       let before = now (start two .args .out) in
       record {
-        refusal = a .refusal ∙ sym (after-either (m two) (s two has) (start two .args .method) (given two) (lent two) (lent-passed by z));
+        refusal = a .refusal ∙ sym (after-either (m two) (s two like) (start two .args .method) (given two) (lent two) (lent-passed by z));
         leftovers-are = a .leftovers-are;
         output =
             a .output
-            ∙ ap (λ (p : List ℤ). ifAccepted (c .forecast-prepared .result) (outputFrom (m two) (s two has) p (start two .args .method) (start two .args .basis) before) before) (lent-delays by z)
+            ∙ ap (λ (p : List ℤ). ifAccepted (c .forecast-prepared .result) (outputFrom (m two) (s two like) p (start two .args .method) (start two .args .basis) before) before) (lent-delays by z)
             ∙ ap (λ (out : List ℤ). ifAccepted (c .forecast-prepared .result) out before)
-            (either-output (m two) (s two has) (shared else1) (given two) (lent two) (start two .args .method) (start two .args .basis) before);
+            (either-output (m two) (s two like) (shared else1) (given two) (lent two) (start two .args .method) (start two .args .basis) before);
       }
 
 returns-2 : tie.Need-returns-2
@@ -92,7 +92,7 @@ returns-2 c =
     let w = c .before in
     let b = two w in
     let e = else1 w in
-    (answered w, near (shared e) (answered w true) (λ _. either-solve (m b) (s b true) (shared e) (given b) (lent b) (lent-passed (b .prepare-from .ensures) (e .if1 .left))))
+    (answered w, near (shared e) (answered w noSet) (λ _. either-solve (m b) (s b noSet) (shared e) (given b) (lent b) (lent-passed (b .prepare-from .ensures) (e .if1 .left))))
 
 forecast-prepared-requires : tie.Need-forecast-prepared-requires
 forecast-prepared-requires c κs =

@@ -10,17 +10,17 @@ use Rattle.set_file.proofs.writer.put_kind.Statement.{statement}
 use Rattle.set_file.proofs.writer.put_kind.Tie as tie
 
 abbrev Inv-loop : tie.InvT-loop
-Inv-loop out₀ a m kind cells next₀ k₀ out next k = (k ≤ m) × Filled (λ k. yearBytes kind cells (suc k) (m - k)) out₀ a k out next
+Inv-loop out₀ a m line kind cells next₀ k₀ out next k = (k ≤ m) × Filled (λ k. yearBytes line kind cells (suc k) (m - k)) out₀ a k out next
 
 abbrev μ-loop : tie.MeasureT-loop
-μ-loop out₀ a m kind cells next₀ k₀ out next k = m - k
+μ-loop out₀ a m line kind cells next₀ k₀ out next k = m - k
 
 put-year-requires : tie.Need-put-year-requires Inv-loop μ-loop
 unfolding kindBytes
 put-year-requires c κs =
     let l = c .before .before .loop in
     let s = c .before .before .before .before in
-    ((s .pre .0 .1, omega arith, omega arith, omega arith), rw add-one (filled-room _ _ _ (l .inv .1) (s .args .m) (s .pre .1) (omega arith)))
+    ((s .pre .0 .1, s .pre .0 .2, omega arith, omega arith, omega arith), rw add-one (filled-room _ _ _ (l .inv .1) (s .args .m) (s .pre .1) (omega arith)))
 
 loop-again : tie.Need-loop-again Inv-loop μ-loop
 unfolding kindBytes

@@ -18,12 +18,12 @@ use Rattle.set_file.proofs.writer.put_set.Statement.{statement}
 use Rattle.set_file.proofs.writer.put_set.Tie as tie
 
 abbrev kindOf : tie.Start → ℕ → List ℕ
-kindOf s t = kindBytes (s .args .m) t (lentKind (now (s .args .counts)) (now (s .args .paid)) (now (s .args .incurred)) t)
+kindOf s t = kindBytes (s .args .m) (s .args .line) t (lentKind (now (s .args .counts)) (now (s .args .paid)) (now (s .args .incurred)) t)
 
 -- the set's file is its kinds
-file : (s : tie.Start) → let a = s .args in fileOf (a .m) (givenSet (a .m) (a .has-incurred) (now (a .counts)) (now (a .paid)) (now (a .incurred))) ≡ chained (kinds (a .has-incurred)) (kindOf s)
+file : (s : tie.Start) → let a = s .args in fileOf (a .m) (givenSet (a .m) (a .line) (a .has-incurred) (now (a .counts)) (now (a .paid)) (now (a .incurred))) ≡ chained (kinds (a .has-incurred)) (kindOf s)
 unfolding setBytes
-file s = file-bytes (s .args .m) (s .pre .0) _ _ _ (s .args .has-incurred)
+file s = file-bytes (s .args .m) (s .pre .0 .0) (s .args .line) _ _ _ (s .args .has-incurred)
 
 room : (s : tie.Start) → 0 + length (chained (kinds (s .args .has-incurred)) (kindOf s)) ≤ length (now (s .args .out))
 room s = omega (arith, s .pre .1, ap length (file s))
@@ -44,21 +44,21 @@ put-kind-requires : tie.Need-put-kind-requires
 unfolding lentKind
 put-kind-requires c κs =
     let s = c .before .before in
-    ((s .pre .0, omega arith), filled-room (kindOf s) (now (s .args .out)) 0 (filled-none _ _ _) _ (room s) (omega (arith, kinds-range (s .args .has-incurred))))
+    ((s .pre .0 .0, s .pre .0 .1, omega arith), filled-room (kindOf s) (now (s .args .out)) 0 (filled-none _ _ _) _ (room s) (omega (arith, kinds-range (s .args .has-incurred))))
 
 put-kind-requires-2 : tie.Need-put-kind-requires-2
 unfolding lentKind
 put-kind-requires-2 c κs =
     let d = c .before .before .before in
     let s = d .before .before .before in
-    ((s .pre .0, omega arith), filled-room (kindOf s) (now (s .args .out)) 0 (first d) _ (room s) (omega (arith, kinds-range (s .args .has-incurred))))
+    ((s .pre .0 .0, s .pre .0 .1, omega arith), filled-room (kindOf s) (now (s .args .out)) 0 (first d) _ (room s) (omega (arith, kinds-range (s .args .has-incurred))))
 
 put-kind-requires-3 : tie.Need-put-kind-requires-3
 unfolding lentKind kinds
 put-kind-requires-3 c κs =
     let d = c .before .before .before .before in
     let s = d .before .before .before .before .before .before .before in
-    ((s .pre .0, omega arith), filled-room (kindOf s) (now (s .args .out)) 0 (second d) _ (room s) (rw (c .before .if1 .taken) (omega arith)))
+    ((s .pre .0 .0, s .pre .0 .1, omega arith), filled-room (kindOf s) (now (s .args .out)) 0 (second d) _ (room s) (rw (c .before .if1 .taken) (omega arith)))
 
 -- all kinds are written
 whole : (s : tie.Start) (n : ℕ) {out : List ℕ} {next : ℕ} → kinds (s .args .has-incurred) ≡ n → Filled (kindOf s) (now (s .args .out)) 0 n out next → out ≡ overlay (now (s .args .out)) 0 (chained (kinds (s .args .has-incurred)) (kindOf s))

@@ -15,10 +15,10 @@ use Rattle.set_file.proofs.writer.put_year.Statement.{statement}
 use Rattle.set_file.proofs.writer.put_year.Tie as tie
 
 abbrev Inv-loop : tie.InvT-loop
-Inv-loop out₀ a kind cells year n next₀ j₀ out next j = (j ≤ n) × Filled (cellBytes kind cells year) out₀ a j out next
+Inv-loop out₀ a line kind cells year n next₀ j₀ out next j = (j ≤ n) × Filled (cellBytes line kind cells year) out₀ a j out next
 
 abbrev μ-loop : tie.MeasureT-loop
-μ-loop out₀ a kind cells year n next₀ j₀ out next j = n - j
+μ-loop out₀ a line kind cells year n next₀ j₀ out next j = n - j
 
 put-requires : tie.Need-put-requires Inv-loop μ-loop
 unfolding yearBytes
@@ -28,7 +28,7 @@ put-requires c κs =
     let s = d .before .before .before in
     omega (
       arith,
-      length-record (s .args .kind) (s .args .year) (l .j) (word (cell (s .args .cells .now) (s .args .year) (l .j))),
+      length-record (s .args .kind) (s .args .year) (l .j) (s .args .line) (word (cell (s .args .cells .now) (s .args .year) (l .j))),
       filled-room _ _ _ (l .inv .1) (s .args .n) (s .pre .1) (omega (arith, d .loop-test .taken)),
     )
 
@@ -40,10 +40,10 @@ loop-again c =
     let v = b .before .before .before in
     let l = v .before .before .loop in
     let s = v .before .before .before .before in
-    let e = b .record-bytes .ensures ∙ ap (recordOf (s .args .kind) (s .args .year) (l .j)) (b .before .to-word .ensures ∙ ap word (toZ-ofZ (record { sfits = v .v .given }))) in (
+    let e = b .record-bytes .ensures ∙ ap (recordOf (s .args .kind) (s .args .year) (l .j) (s .args .line)) (b .before .to-word .ensures ∙ ap word (toZ-ofZ (record { sfits = v .v .given }))) in (
       omega arith,
       filled-next _ _ _ (l .inv .1) (s .args .n) (s .pre .1)
-          (ap (λ (n : ℕ). l .next + n) (sym (length-record _ _ _ _)), w .put .ensures ∙ ap (overlay (l .out) (l .next)) e) (w .put .kept .0),
+          (ap (λ (n : ℕ). l .next + n) (sym (length-record _ _ _ _ _)), w .put .ensures ∙ ap (overlay (l .out) (l .next)) e) (w .put .kept .0),
     )
 
 returns : tie.Need-returns Inv-loop μ-loop
@@ -66,7 +66,7 @@ put-year-spec =
     (λ c. omega arith)
     (λ c. omega arith)
     (λ c κs. search needs)
-    (λ c κs. (search needs, search needs, omega arith))
+    (λ c κs. (search needs, search needs, omega arith, search needs))
     put-requires
     (λ c. omega (arith, put-requires (c .before .before .before) (c .before .before .put .lifetimes)))
     (λ c. omega arith)

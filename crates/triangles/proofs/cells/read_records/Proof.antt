@@ -12,7 +12,7 @@ use mir.Val.{SFits}
 use mir.Facts.{toZ-ofZ}
 use denote.Ref.{now}
 use Rattle.model.specs.Lists.{every}
-use Rattle.model.specs.ListsLaws.{every-none, every-more, every-next, every-no}
+use Rattle.model.specs.ListsLaws.{and-left, every-none, every-more, every-next, every-no}
 use Rattle.model.specs.Questions.{firstNo}
 use Rattle.model.specs.Records.{inRange}
 use Rattle.model.specs.Tests.{by-test, refused, passed}
@@ -25,19 +25,19 @@ use Rattle.triangles.proofs.cells.read_records.Statement.{statement}
 use Rattle.triangles.proofs.cells.read_records.Tie as tie
 
 abbrev Inv-loop : tie.InvT-loop
-Inv-loop file m kinds n set₀ seen₀ once₀ good₀ k₀ set seen once good k =
-    (k ≤ n) × (every k (wellFormed m kinds file) ≡ true) × Flags file k seen × Cells file k set × (once ≡ every k (fresh file)) × (good ≡ every k (ranged file))
+Inv-loop file m kinds line n set₀ seen₀ once₀ good₀ k₀ set seen once good k =
+    (k ≤ n) × (every k (wellFormed m kinds line file) ≡ true) × Flags file k seen × Cells file k set × (once ≡ every k (fresh file)) × (good ≡ every k (ranged file))
 
 abbrev μ-loop : tie.MeasureT-loop
-μ-loop file m kinds n set₀ seen₀ once₀ good₀ k₀ set seen once good k = n - k
+μ-loop file m kinds line n set₀ seen₀ once₀ good₀ k₀ set seen once good k = n - k
 
 -- ---- the two ways out
-module _ (m u : ℕ) (f : List ℕ) (n : ℕ) (set : List ℤ) where
-  malformed : every n (wellFormed m u f) ≡ false → RecordsRead m u f n 3 set
+module _ (m u v : ℕ) (f : List ℕ) (n : ℕ) (set : List ℤ) where
+  malformed : every n (wellFormed m u v f) ≡ false → RecordsRead m u v f n 3 set
   unfolding firstNo
   malformed e = record { result = rw e; values = λ z. absurd (omega arith) }
 
-  formed : (r : ℕ) → every n (wellFormed m u f) ≡ true → r ≡ firstNo ((4, every n (fresh f)) ∷ (5, every n (ranged f)) ∷ []) → Cells f n set → RecordsRead m u f n r set
+  formed : (r : ℕ) → every n (wellFormed m u v f) ≡ true → r ≡ firstNo ((4, every n (fresh f)) ∷ (5, every n (ranged f)) ∷ []) → Cells f n set → RecordsRead m u v f n r set
   unfolding firstNo
   formed r e is cells =
       record {
@@ -57,7 +57,7 @@ module _ (c : tie.Else1 Inv-loop μ-loop) where
   k = c .before .before .before .before .loop .k
 
   parts : let h = c .before .before .head .result in (h .kind < start .args .kinds) × (1 ≤ h .year) × (h .year + h .delay ≤ start .args .m)
-  parts = parts-so _ _ _ _ _ (passed (c .if1 .left) (c .before .record-ok .ensures))
+  parts = parts-so _ _ _ _ _ (and-left _ _ (passed (c .if1 .left) (c .before .record-ok .ensures)))
 
 module _ (c : tie.After-key Inv-loop μ-loop) where
   abbrev q : ℕ
@@ -76,9 +76,8 @@ loop-holds c = (search needs, every-none _, flags-none _, rw (c .before .pre .1 
 returns : tie.Need-returns Inv-loop μ-loop
 returns c =
     let l = c .before .before .before .before .loop in
-    let s = c .before .before .before .before .before .before in
     let no = refused (c .if1 .taken) (c .before .record-ok .ensures) in
-    malformed _ _ _ _ (l .set) (every-no _ _ (l .k) (c .before .before .before .loop-test .taken) (sym (head-formed _ _ _ (l .k) (c .before .before .head .ensures) (s .pre .0 .0)) ∙ no))
+    malformed _ _ _ _ _ (l .set) (every-no _ _ (l .k) (c .before .before .before .loop-test .taken) (sym (head-formed _ _ _ _ (l .k) (c .before .before .head .ensures)) ∙ no))
 
 loop-again : tie.Need-loop-again Inv-loop μ-loop
 unfolding ranged fresh
@@ -92,7 +91,7 @@ loop-again c =
     let value = toZ-ofZ s ∙ v .value .ensures in
     let yes = passed (e .if1 .left) (e .before .record-ok .ensures) in (
       omega arith,
-      every-more _ (l .k) (l .inv .1) (sym (head-formed _ _ _ (l .k) h (start e .pre .0 .0)) ∙ yes),
+      every-more _ (l .k) (l .inv .1) (sym (head-formed _ _ _ _ (l .k) h) ∙ yes),
       flags-more (file e) (l .k) (q b) (l .seen) (keyed b) (below b) (l .inv .2),
       cells-more (file e) (l .k) (q b) _ (l .set) (keyed b) (below b) value (l .inv .3),
       every-next _ (l .k) (l .inv .4) (l .inv .2 .1 (q b) (below b) ∙ rw (keyed b)),
@@ -104,7 +103,7 @@ returns-2 c =
     let l = c .before .before .loop in
     let e : l .k ≡ c .before .before .before .before .args .n = omega arith in
     let i = rw e at (l .inv) in
-    formed _ _ _ _ _ _ (i .1) (c .first-no .ensures ∙ rw (i .4, i .5)) (i .3)
+    formed _ _ _ _ _ _ _ (i .1) (c .first-no .ensures ∙ rw (i .4, i .5)) (i .3)
 
 pub read-records-spec : {M : Type 1} → statement M
 read-records-spec =

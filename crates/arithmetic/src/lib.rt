@@ -9,21 +9,21 @@ ghost use Rattle.arithmetic.specs.Capped.{capped};
 use rounding::{magnitude, round_div, round_signed};
 
 // A whole number, unless it lies past a cap.
-#[derive(Drop)]
+#[derive(Clone, Copy)]
 pub enum Capped {
     Within(i64),
     TooLarge,
 }
 
 // An exact quotient and its remainder.
-#[derive(Drop)]
+#[derive(Clone, Copy)]
 struct Quotient {
     q: u64,
     rem: u64,
 }
 
 // A product of two numbers below 2^48: top × 2^32 + mid × 2^16 + low.
-#[derive(Drop)]
+#[derive(Clone, Copy)]
 struct Wide {
     top: u64,
     mid: u64,

@@ -56,7 +56,7 @@ fn reported_sum(
 }
 
 // RBNS and IBNR of one cell.
-#[derive(Drop)]
+#[derive(Clone, Copy)]
 pub struct Cell {
     pub rbns: i64,
     pub ibnr: i64,

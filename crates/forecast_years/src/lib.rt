@@ -31,7 +31,7 @@ fn year_start(valuation: Date, t: u64) -> u64
 
 // A forecast year: how many have ended before it, the number of the day on which it starts, and
 // that of the day after it.
-#[derive(Drop)]
+#[derive(Clone, Copy)]
 pub struct ForecastYear {
     pub ended: u64,
     pub start: u64,

@@ -11,7 +11,7 @@ ghost use Rattle.ladder.specs.Ladder.{Steps, InBounds, Ready, share_in, g_of, Bo
 use arithmetic::Capped;
 
 // A cumulative share where it is in bounds, from 10^6 to 4 × 10^9.
-#[derive(Drop)]
+#[derive(Clone, Copy)]
 enum Share {
     Inside(i64),
     Outside,

@@ -3,7 +3,7 @@
 
 // A set of triangles: its line of cover (02, Job 7), 0 to 5, and cell (i,j) at 20 × (i-1) + j, with
 // zeros in the other places. `has_incurred` says that incurred is there beside counts and paid.
-#[derive(Drop)]
+#[derive(Clone, Copy)]
 pub struct TriangleSet {
     pub line: u64,
     pub has_incurred: bool,
@@ -14,7 +14,7 @@ pub struct TriangleSet {
 
 // What the reader hands back. A refusal of 0 says that the file is accepted. In this and in every
 // answer below the line is that of the set, and 0 beside a refusal.
-#[derive(Drop)]
+#[derive(Clone, Copy)]
 pub struct ReadAnswer {
     pub refusal: u64,
     pub set: TriangleSet,
@@ -22,7 +22,7 @@ pub struct ReadAnswer {
 
 // Shares and ultimates: b and N of counts; q, g and U of paid. Delay j stands at place j, year i at
 // place i - 1.
-#[derive(Drop)]
+#[derive(Clone, Copy)]
 pub struct SharesAnswer {
     pub refusal: u64,
     pub line: u64,
@@ -34,7 +34,7 @@ pub struct SharesAnswer {
 }
 
 // The delays, p(l) at place l.
-#[derive(Drop)]
+#[derive(Clone, Copy)]
 pub struct DelaysAnswer {
     pub refusal: u64,
     pub line: u64,
@@ -42,14 +42,14 @@ pub struct DelaysAnswer {
 }
 
 // Whether given delays (02, Job 6) are accepted.
-#[derive(Drop)]
+#[derive(Clone, Copy)]
 pub struct CheckDelaysAnswer {
     pub refusal: u64,
     pub line: u64,
 }
 
 // The leftovers, beside the output that the caller lends; year i at place i - 1.
-#[derive(Drop)]
+#[derive(Clone, Copy)]
 pub struct ForecastAnswer {
     pub refusal: u64,
     pub line: u64,
@@ -57,28 +57,28 @@ pub struct ForecastAnswer {
 }
 
 // A year's inflation against the first year.
-#[derive(Drop)]
+#[derive(Clone, Copy)]
 pub enum Inflation {
     BaseYear,
     NoPaymentsYet,
     Ratio(f64),
 }
 
-#[derive(Drop)]
+#[derive(Clone, Copy)]
 pub struct YearInflation {
     pub value: Inflation,
 }
 
 // Claim costs (document 01's claim-cost card): mu is the first year's mean cost, f(j) stands at
 // place j - 1, year i's inflation at place i - 1.
-#[derive(Drop)]
+#[derive(Clone, Copy)]
 pub struct ClaimCosts {
     pub mu: f64,
     pub factors: [f64; 20],
     pub inflations: [YearInflation; 20],
 }
 
-#[derive(Drop)]
+#[derive(Clone, Copy)]
 pub struct ClaimCostsAnswer {
     pub refusal: u64,
     pub line: u64,
@@ -87,7 +87,7 @@ pub struct ClaimCostsAnswer {
 
 // The back-test: the number of cells, and the sums of absolute errors by cell, by calendar year and
 // of the total.
-#[derive(Drop)]
+#[derive(Clone, Copy)]
 pub struct BackTestAnswer {
     pub refusal: u64,
     pub line: u64,
@@ -101,7 +101,7 @@ pub struct BackTestAnswer {
 // reports counted and payments added by cell, cell (i,j) at 20 × (i-1) + j; the calendar year of
 // the last transaction, 0 for none.
 #[repr(C)]
-#[derive(Drop)]
+#[derive(Clone, Copy)]
 pub struct JournalTally {
     pub claims: [u8; 4096],
     pub counts: [i64; 400],
@@ -111,7 +111,7 @@ pub struct JournalTally {
 
 // A transaction of a journal: kind 0 reports a claim, kind 1 pays an amount; `spare` is the byte
 // that has to be zero.
-#[derive(Drop)]
+#[derive(Clone, Copy)]
 pub struct Transaction {
     pub claim: usize,
     pub kind: usize,
@@ -122,7 +122,7 @@ pub struct Transaction {
 }
 
 // A date of the Gregorian calendar (02, Job 5), or what is given for one: any three numbers.
-#[derive(Drop)]
+#[derive(Clone, Copy)]
 pub struct Date {
     pub year: u64,
     pub month: u64,
@@ -130,7 +130,7 @@ pub struct Date {
 }
 
 // What falls due in a window of dates (02, Job 5).
-#[derive(Drop)]
+#[derive(Clone, Copy)]
 pub struct CashAnswer {
     pub refusal: u64,
     pub line: u64,
@@ -138,7 +138,7 @@ pub struct CashAnswer {
 }
 
 // A run of digits and the byte after it: the number and the place after that byte.
-#[derive(Drop)]
+#[derive(Clone, Copy)]
 pub enum Run {
     Number(u64, usize),
     Wrong,
@@ -146,7 +146,7 @@ pub enum Run {
 
 // What the first line of `closing` asks: m, the method, the basis, and the place where the file
 // starts.
-#[derive(Drop)]
+#[derive(Clone, Copy)]
 pub enum FirstLine {
     Asked(u64, u64, u64, usize),
     Refused,

@@ -35,7 +35,7 @@ fn eight(file: &[u8], at: usize) -> usize
 
 // The first eight bytes of a record: its kind, its accident year, its delay and, as one number with
 // the spare bytes, its line of cover.
-#[derive(Drop)]
+#[derive(Clone, Copy)]
 pub struct RecordHead {
     pub kind: usize,
     pub year: usize,

@@ -7,7 +7,7 @@ ghost use Rattle.model.specs.Rounding.{S, r};
 use rounding::{SCALE, magnitude, round_signed, with_sign};
 
 // An exact quotient and the first digit below it.
-#[derive(Drop)]
+#[derive(Clone, Copy)]
 struct Quotient {
     q: u64,
     rem: u64,

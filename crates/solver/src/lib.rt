@@ -7,7 +7,7 @@ ghost use Rattle.model.specs.Delays.{delay_after, solves_at};
 ghost use Rattle.solver.specs.Solved.{Weighed, Next, Solvable, weighed_sum, held, unsolved, solved_of, checked_of};
 
 // The delays, p(l) at place l, where `ok` says that question 12, or 20, got a yes; else zeros.
-#[derive(Drop)]
+#[derive(Clone, Copy)]
 pub struct Solved {
     pub ok: bool,
     pub p: [i64; 20],

@@ -5,7 +5,7 @@ ghost use Rattle.std.specs.Prelude.{◌≡◌, ◌+ℤ◌};
 ghost use Rattle.year_tally.specs.TallyAdd.{fits64, tally_add};
 
 // The sums of each calendar year 1 to 38, year t at place t - 1.
-#[derive(Drop)]
+#[derive(Clone, Copy)]
 pub struct Tally {
     pub rbns: [i64; 38],
     pub ibnr: [i64; 38],

@@ -1,0 +1,6 @@
+-- `pardesul_closing_page` meets its contract: it is that of `closing_page`. Assumes nothing.
+use borrow.Author.Rules.{rules}
+use Rattle.c_api.proofs.closing.pardesul_closing_page.Goals as goal
+
+pub returns : goal.returns
+returns c = c.before.before.closing_page.ensures

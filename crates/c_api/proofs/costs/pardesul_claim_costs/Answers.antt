@@ -1,0 +1,33 @@
+-- `pardesul_claim_costs` meets its contract: a refusal stores nothing, and an accepted file stores
+-- the answer. Assumes nothing.
+use borrow.Author.Rules.{rules}
+use borrow.Author.Tests.{ne_eqb}
+use mathlib.Core.Path.{sym, ap, ◌∙◌}
+use Rattle.model.specs.declared.ClaimCostsAnswer.{ClaimCostsAnswer}
+use Rattle.c_forms.specs.Inflations.{kinds_of, ratios_of}
+use Rattle.c_api.proofs.costs.pardesul_claim_costs.Goals as goal
+
+pub returns-then-refusal-ne0 : goal.returns-then-refusal-ne0
+returns-then-refusal-ne0 c =
+    let k = ne_eqb _ 0 c.if-refusal-ne0.true in
+    (ap (λ (a : ClaimCostsAnswer). a.refusal) c.before.claim_costs_lem.ensures, (rw k, (rw k, (rw k, (rw k, rw k)))))
+
+pub returns : goal.returns
+returns c =
+    let d = c.before.before.before.before.before in
+    let e = d.before.claim_costs_lem.ensures in (
+      sym d.if-refusal-ne0.false ∙ ap (λ (a : ClaimCostsAnswer). a.refusal) e,
+      (
+        ap (λ (a : ClaimCostsAnswer). a.line) e,
+        (
+          ap (λ (a : ClaimCostsAnswer). a.costs.mu) e,
+          (
+            ap (λ (a : ClaimCostsAnswer). a.costs.factors) e,
+            (
+              c.split.ensures.kinds_after ∙ ap (λ (a : ClaimCostsAnswer). kinds_of a.costs.inflations-1) e,
+              c.split.ensures.ratios_after ∙ ap (λ (a : ClaimCostsAnswer). ratios_of a.costs.inflations-1) e,
+            ),
+          ),
+        ),
+      ),
+    )

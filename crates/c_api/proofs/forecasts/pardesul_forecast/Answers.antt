@@ -1,0 +1,13 @@
+-- `pardesul_forecast` meets its contract: it is that of `forecast_into`, with the line.
+-- Assumes nothing.
+use borrow.Author.Rules.{rules}
+use mathlib.Core.Path.{◌∙◌}
+use Rattle.forecast.specs.FileLaws.{forecast_line}
+use Rattle.c_api.proofs.forecasts.pardesul_forecast.Goals as goal
+
+pub returns : goal.returns
+returns c =
+    let w = c.before.before.before in
+    let a = w.before.before.before.before.args in
+    let e = w.forecast_into-refusal.ensures in
+    (e.0, (c.Store-Line.ensures ∙ forecast_line a.m a.file.now a.method a.basis a.out-1.now e.0 a.line.now, (e.1.1.0, (e.1.0, e.1.1.1))))

@@ -1,0 +1,12 @@
+-- `pardesul_delays` meets its contract: it is that of `delays_into`, with the line. Assumes nothing.
+use borrow.Author.Rules.{rules}
+use mathlib.Core.Path.{◌∙◌}
+use Rattle.delays.specs.PreparedLaws.{delays_line}
+use Rattle.c_api.proofs.ladder.pardesul_delays.Goals as goal
+
+pub returns : goal.returns
+returns c =
+    let w = c.before.before in
+    let a = w.before.before.before.args in
+    let e = w.delays_into-refusal.ensures in
+    (e.0, (c.Store-Line.ensures ∙ delays_line a.m a.file.now e.0 a.line.now, e.1))

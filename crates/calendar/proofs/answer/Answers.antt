@@ -1,0 +1,47 @@
+-- `calendar::closing::answer` meets its contract: the first line is refused, or asks for the answer
+-- to the file behind it. Assumes nothing.
+use mathlib.Core.Path.{◌≡◌, sym, ◌∙◌}
+use Prim.Native.Nat.{◌≤◌}
+use native.Mathlib.Nat.{le_trans}
+use native.Mathlib.Omega.{arith}
+use lib.ListN.{length}
+use Rattle.model.specs.Calendar.{first_line}
+use Rattle.model.specs.declared.FirstLine.TheVariants.{Asked}
+use Rattle.tally_text.specs.TallyTextLaws.{refusal_short}
+use Rattle.calendar.specs.Respond.{file_part, file_inside, asked_text, wrong_text}
+use borrow.Author.Rules.{rules}
+use Rattle.calendar.proofs.answer.Goals as goal
+use Rattle.calendar.proofs.answer.Goals.{In-Asked, Start}
+
+-- what the first line asks
+module _ (c : In-Asked) where
+  abbrev start : Start
+  start = c.before.before.before.before.before.before
+
+  asked : first_line start.args.input.now
+      ≡ Asked c.before.in-Asked.m c.before.in-Asked.method c.before.in-Asked.basis c.before.in-Asked.at
+  asked = sym c.before.before.before.read_first_line.ensures ∙ c.before.in-Asked.is
+
+  inside : c.before.in-Asked.at ≤ length start.args.input.now
+  inside = file_inside start.args.input.now _ _ _ _ asked
+
+pub returns-in_default : goal.returns-in_default
+returns-in_default c =
+    let e = c.before.before.before.before in
+    let w = e.before.before in
+    rw (wrong_text w.before.before.before.args.input.now (sym w.read_first_line.ensures ∙ e.in_default.is)) c.before.before.write_refusal.ensures
+
+pub returns : goal.returns
+returns c =
+    let k = c.before.before.before.before.before in
+    rw (asked_text (start k).args.input.now _ _ _ _ (asked k))
+    (rw (file_part k.before.in-Asked.at (start k).args.input.now) at c.before.before.answer_file.ensures)
+
+pub write_refusal-requires : goal.write_refusal-requires
+write_refusal-requires c = le_trans (refusal_short _ (omega arith)) c.before.before.before.before.before.before.requires
+
+pub slice_bounds-answer_file-count : goal.slice_bounds-answer_file-count
+slice_bounds-answer_file-count c = inside c
+
+pub slice_bounds-answer_file-start : goal.slice_bounds-answer_file-start
+slice_bounds-answer_file-start c = inside c

@@ -1,0 +1,26 @@
+-- `calendar::closing::respond_to` meets its contract: the bytes read are the input, or fill a
+-- buffer that is long enough for an input to be cut there. Assumes nothing.
+use mathlib.Core.Path.{sym}
+use native.Mathlib.Omega.{arith}
+use lib.Seq.{length-take-le}
+use Rattle.calendar.specs.Respond.{read_short, read_full}
+use Rattle.calendar.proofs.respond_to.Goals as goal
+
+pub returns-then-n-read : goal.returns-then-n-read
+returns-then-n-read c =
+    let s = c.before.before.before.before.before in
+    read_short s.args.input.now s.args.out.now c.answer.new.1.0 s.args.n c.answer.result (omega arith) c.answer.ensures
+
+pub returns : goal.returns
+returns c =
+    let s = c.before.before.before.before in
+    read_full s.args.input.now s.args.out.now c.answer-2.new.1.0 s.args.n c.answer-2.result (omega arith) (omega arith) c.answer-2.ensures
+
+pub slice_bounds-answer-end : goal.slice_bounds-answer-end
+slice_bounds-answer-end c = sym (length-take-le _ _ (omega arith))
+
+pub answer-requires : goal.answer-requires
+answer-requires c = omega arith
+
+pub answer-requires-2 : goal.answer-requires-2
+answer-requires-2 c = omega arith

@@ -1,0 +1,14 @@
+use mathlib.Core.Path.{◌≡◌, refl, sym, ◌∙◌}
+use Prim.Native.Nat.{◌+◌, ◌-◌, ◌*◌, ◌^◌, ◌≤◌}
+use native.Mathlib.Omega.{arith}
+use lib.Seq.{slice}
+use borrow.Author.Rules.{rules}
+use Rattle.model.specs.Calendar.{value_from}
+use Rattle.first_line.specs.Runs.{value_next, value_end, tens, few_tens}
+use Rattle.first_line.proofs.number_of.Given as goal
+
+abbrev pub invariant-loop-i : goal.invariant-loop-i
+invariant-loop-i l = (l.at ≤ l.i) × (l.i ≤ l.end) × (l.v + 23 ≤ 23 * 10 ^ (l.i - l.at)) × (value_from 0 (slice l.at l.end l.s) ≡ value_from l.v (slice l.i l.end l.s))
+
+abbrev pub decreases-loop-i : goal.decreases-loop-i
+decreases-loop-i l = l.end - l.i

@@ -1,0 +1,20 @@
+-- `forecast::forecast` meets its contract: what `forecast_into` writes, with zeros for leftovers.
+-- Assumes nothing.
+use mathlib.Core.Bool.{false}
+use mathlib.Core.List.{[]}
+use borrow.Author.Rules.{rules}
+use Rattle.model.specs.Delays.{delays_of}
+use Rattle.model.specs.Questions.{of_forecast}
+use Rattle.model.specs.Calls.{forecast_refusal, forecast_answer, forecast_output}
+use Rattle.delays.specs.Prepared.{asks_delays}
+use Rattle.set_forecast.specs.SetForecast.{of_either, either_delays}
+use Rattle.forecast.specs.FileLaws.{by_value}
+use Rattle.forecast.proofs.forecast.Goals as goal
+
+pub returns : goal.returns
+unfolding forecast_refusal forecast_answer forecast_output of_forecast of_either asks_delays either_delays delays_of
+returns c =
+    let w = c.before.before.before in
+    let a = w.before.before.before.before.args in
+    let e = w.forecast_into-refusal.ensures in
+    record { result = by_value a.m a.file.now a.method a.basis false [] a.out-1.now e c.Store-Line.ensures; output = e.1.1.0; reserve = e.1.1.1 }

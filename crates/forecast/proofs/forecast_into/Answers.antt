@@ -1,0 +1,20 @@
+-- `forecast::forecast_into` meets its contract: `forecast_file` with the delays solved here.
+-- Assumes nothing.
+use mathlib.Core.Path.{refl}
+use borrow.Author.Rules.{rules}
+use Rattle.model.specs.Delays.{delays_of}
+use Rattle.model.specs.Questions.{of_forecast}
+use Rattle.model.specs.Calls.{forecast_refusal, forecast_answer, forecast_output}
+use Rattle.delays.specs.Prepared.{asks_delays}
+use Rattle.set_forecast.specs.SetForecast.{of_either, either_delays}
+use Rattle.forecast.proofs.forecast_into.Goals as goal
+
+pub returns : goal.returns
+unfolding forecast_refusal forecast_answer forecast_output of_forecast of_either asks_delays either_delays delays_of
+returns c = c.before.forecast_file.ensures
+
+pub slice_bounds-forecast_file-end : goal.slice_bounds-forecast_file-end
+slice_bounds-forecast_file-end c = refl
+
+pub forecast_file-requires : goal.forecast_file-requires
+forecast_file-requires c = tt

@@ -1,0 +1,15 @@
+-- `forecast::forecast_with_delays_into` meets its contract: `forecast_file` with the delays that
+-- are given. Assumes nothing.
+use borrow.Author.Rules.{rules}
+use Rattle.model.specs.Questions.{of_forecast_with}
+use Rattle.model.specs.Calls.{forecast_with_refusal, forecast_with_answer, forecast_with_output}
+use Rattle.delays.specs.Prepared.{asks_delays}
+use Rattle.set_forecast.specs.SetForecast.{of_either, either_delays}
+use Rattle.forecast.proofs.forecast_with_delays_into.Goals as goal
+
+pub returns : goal.returns
+unfolding forecast_with_refusal forecast_with_answer forecast_with_output of_forecast_with of_either asks_delays either_delays
+returns c = c.before.forecast_file.ensures
+
+pub forecast_file-requires : goal.forecast_file-requires
+forecast_file-requires c = tt

@@ -1,0 +1,14 @@
+use mathlib.Core.Path.{◌≡◌}
+use Prim.Native.Nat.{suc, ◌-◌, ◌≤◌}
+use native.Mathlib.Omega.{arith}
+use borrow.Author.Rules.{rules}
+use Rattle.model.specs.Lists.{total}
+use Rattle.model.specs.BackTest.{cell_number}
+use Rattle.gaps.specs.ErrorsLaws.{total_none, total_more, twenty}
+use Rattle.gaps.proofs.errors.cell_number.Given as goal
+
+abbrev pub invariant-loop-k : goal.invariant-loop-k
+invariant-loop-k l = (l.k ≤ l.last) × (l.last ≤ 20) × (l.last ≤ l.n - 1) × (l.out ≡ total l.k (λ l.k. l.n - suc l.k))
+
+abbrev pub decreases-loop-k : goal.decreases-loop-k
+decreases-loop-k l = l.last - l.k

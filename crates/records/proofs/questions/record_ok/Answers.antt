@@ -1,0 +1,7 @@
+-- `record_ok` meets its contract. Assumes nothing.
+use borrow.Author.Rules.{rules}
+use mathlib.Core.Path.{refl}
+use Rattle.records.proofs.questions.record_ok.Goals as goal
+
+pub returns : goal.returns
+returns c = refl

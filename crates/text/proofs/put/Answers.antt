@@ -1,0 +1,8 @@
+-- `text::put` meets its contract. Assumes nothing.
+use native.Mathlib.Omega.{arith}
+use Rattle.text.specs.Written.{written_byte}
+use borrow.Author.Rules.{rules}
+use Rattle.text.proofs.put.Goals as goal
+
+pub returns : goal.returns
+returns c = written_byte c.args.out.now c.args.at c.args.b (omega arith)

@@ -1,0 +1,14 @@
+-- `has_incurred` meets its contract. Assumes nothing.
+use borrow.Author.Rules.{rules}
+use native.Mathlib.Omega.{arith}
+use mathlib.Core.Bool.{true}
+use Rattle.model.specs.Records.{has_incurred}
+use Rattle.model.specs.Lengths.{set_most}
+use Rattle.triangles.proofs.has_incurred.Goals as goal
+
+pub returns : goal.returns
+unfolding has_incurred
+returns c = rw c.set_records.ensures
+
+pub overflow_mul-result : goal.overflow_mul-result
+overflow_mul-result c = omega (arith, set_most _ true c.before.before.requires, c.set_records.ensures)

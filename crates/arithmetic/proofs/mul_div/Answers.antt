@@ -1,4 +1,5 @@
 -- `arithmetic::mul_div` meets its contract. Assumes nothing.
+use mir.Syntax.{w64}
 use mathlib.Core.Path.{◌∙◌}
 use native.Mathlib.Omega.{arith}
 use mir.Facts.{to_z-of_z}
@@ -14,7 +15,7 @@ round_narrow-requires c =
 pub returns-then-is_narrow : goal.returns-then-is_narrow
 returns-then-is_narrow c =
     let s = c.before.before.before in
-    to_z-of_z (record { sfits = c.round_narrow.type_inv })
+    to_z-of_z {w = w64} (record { sfits = c.round_narrow.type_inv })
     ∙ rw (to_z-of_z s.ranges.a, to_z-of_z s.ranges.x, to_z-of_z s.ranges.d) at c.round_narrow.ensures
 
 pub round_wide-requires : goal.round_wide-requires
@@ -26,5 +27,5 @@ round_wide-requires c =
 pub returns : goal.returns
 returns c =
     let s = c.before.before.before.before in
-    to_z-of_z (record { sfits = c.round_wide.type_inv })
+    to_z-of_z {w = w64} (record { sfits = c.round_wide.type_inv })
     ∙ rw (to_z-of_z s.ranges.a, to_z-of_z s.ranges.x, to_z-of_z s.ranges.d) at c.round_wide.ensures

@@ -1,5 +1,6 @@
 -- `arithmetic::mul_div_capped` meets its contract: a product that `round_wide` cannot take puts the
 -- rounded quotient past every cap. Assumes nothing.
+use mir.Syntax.{w64}
 use mathlib.Core.Path.{◌≡◌, sym, ap, ap₂, ◌∙◌}
 use Prim.Native.Nat.{◌+◌, ◌*◌, ◌^◌}
 use native.Mathlib.Omega.{arith}
@@ -32,7 +33,7 @@ returns-then-is_narrow c =
     let n = c.before in
     let s = n.before.before.before in
     c.up_to.ensures
-    ∙ ap (capped s.args.cap) (to_z-of_z (record { sfits = n.round_narrow.type_inv })
+    ∙ ap (capped s.args.cap) (to_z-of_z {w = w64} (record { sfits = n.round_narrow.type_inv })
     ∙ rw (to_z-of_z s.ranges.a, to_z-of_z s.ranges.x, to_z-of_z s.ranges.d) at n.round_narrow.ensures)
 
 pub returns-then-p-magnitude : goal.returns-then-p-magnitude
@@ -53,5 +54,5 @@ returns c =
     let n = c.before in
     let s = n.before.before.before.before.before.before.before in
     c.up_to-2.ensures
-    ∙ ap (capped s.args.cap) (to_z-of_z (record { sfits = n.round_wide.type_inv })
+    ∙ ap (capped s.args.cap) (to_z-of_z {w = w64} (record { sfits = n.round_wide.type_inv })
     ∙ rw (to_z-of_z s.ranges.a, to_z-of_z s.ranges.x, to_z-of_z s.ranges.d) at n.round_wide.ensures)

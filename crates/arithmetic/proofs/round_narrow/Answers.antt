@@ -19,7 +19,7 @@ round_div-requires c =
 pub returns : goal.returns
 returns c =
     let s = c.before in
-    to_z-of_z (record { sfits = c.round_div.type_inv })
+    to_z-of_z {w = w64} (record { sfits = c.round_div.type_inv })
     ∙ rw (to_z-of_z s.ranges.a, to_z-of_z s.ranges.x, to_z-of_z s.ranges.d, to_z-of_z (product_fits s)) at c.round_div.ensures
 
 pub overflow_mul-a : goal.overflow_mul-a

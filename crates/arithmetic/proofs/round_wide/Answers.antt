@@ -1,4 +1,5 @@
 -- `arithmetic::round_wide` meets its contract. Assumes nothing.
+use mir.Syntax.{w64}
 use mathlib.Core.Path.{◌≡◌, ap, ◌∙◌}
 use native.Mathlib.Omega.{arith}
 use lib.IntN.{ℤ, nat_abs}
@@ -23,7 +24,7 @@ returns c =
     let s = c.before.before.before in
     let whole = rw (d_is c.before.before) at c.before.divide-s.ensures.0 ∙ s.requires.product.0 in
     let e = rw (to_z-of_z s.ranges.a, to_z-of_z s.ranges.x, to_z-of_z s.ranges.d, whole) at c.round_signed.ensures in
-    to_z-of_z (record { sfits = c.round_signed.type_inv }) ∙ e ∙ ap (λ (z : ℤ). r z s.args.d) (signed-* s.args.a s.args.x)
+    to_z-of_z {w = w64} (record { sfits = c.round_signed.type_inv }) ∙ e ∙ ap (λ (z : ℤ). r z s.args.d) (signed-* s.args.a s.args.x)
 
 pub divide-s-requires : goal.divide-s-requires
 divide-s-requires c = omega (arith, d_is c)

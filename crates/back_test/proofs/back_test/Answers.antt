@@ -14,7 +14,20 @@ use Rattle.back_test.specs.SetTest.{set_test}
 use Rattle.back_test.specs.TestLaws as TestLaws
 use Rattle.back_test.specs.TestLaws.{by_settings, none_cut, much_cut, tested}
 use Rattle.back_test.proofs.back_test.Goals as goal
-use Rattle.back_test.proofs.back_test.Goals.{After-read_to_forecast-refusal, Else-m-c, Else-refusal-ne0, Start}
+use Rattle.back_test.proofs.back_test.Lts as lts
+use Rattle.back_test.proofs.back_test.Tie as tie
+use Rattle.back_test.proofs.back_test.Reads as reads
+use Rattle.back_test.proofs.back_test.Goals.{Start}
+
+-- the places, as the steps before a goal know them
+abbrev After-read_to_forecast-refusal : Type 0
+After-read_to_forecast-refusal = lts.After-read_to_forecast tie.the-claims reads.Pre reads.Post tie.handed_clauses
+
+abbrev Else-m-c : Type 0
+Else-m-c = lts.Else3 tie.the-claims reads.Pre reads.Post tie.handed_clauses
+
+abbrev Else-refusal-ne0 : Type 0
+Else-refusal-ne0 = lts.Else1 tie.the-claims reads.Pre reads.Post tie.handed_clauses
 
 module _ (c : After-read_to_forecast-refusal) where
   abbrev start : Start
@@ -45,24 +58,24 @@ module _ (c : Else-refusal-ne0) where
 
 pub returns-then-refusal-ne0 : goal.returns-then-refusal-ne0
 returns-then-refusal-ne0 c =
-    let b = c.before.before in
+    let b = c.before.before.before in
     let e = b.read_to_forecast-refusal.ensures.refusal in
-    let o = c.before.if-refusal-ne0.true in
-    c.refused.ensures ∙ sym (no b _ o (by_settings (m b) (f b) (cut b) (start b).args.method (start b).args.basis (λ z. o (e ∙ z)) ∙ sym e))
+    let o = c.before.before.if-refusal-ne0.true in
+    c.before.refused.ensures ∙ sym (no b _ o (by_settings (m b) (f b) (cut b) (start b).args.method (start b).args.basis (λ z. o (e ∙ z)) ∙ sym e))
 
 pub returns-then-c-lt1 : goal.returns-then-c-lt1
 returns-then-c-lt1 c =
-    let y = c.before.before in
+    let y = c.before.before.before in
     let b = base y in
-    c.refused-then-c-lt1.ensures
-    ∙ sym (no b 8 (λ z. omega arith) (none_cut (m b) (f b) (cut b) (start b).args.method (start b).args.basis (passed y) c.before.if-c-lt1.true))
+    c.before.refused-then-c-lt1.ensures
+    ∙ sym (no b 8 (λ z. omega arith) (none_cut (m b) (f b) (cut b) (start b).args.method (start b).args.basis (passed y) c.before.before.if-c-lt1.true))
 
 pub returns-then-m-c : goal.returns-then-m-c
 returns-then-m-c c =
-    let y = c.before.before.before in
+    let y = c.before.before.before.before in
     let b = base y in
-    c.refused-then-m-c.ensures
-    ∙ sym (no b 8 (λ z. omega arith) (much_cut (m b) (f b) (cut b) (start b).args.method (start b).args.basis (passed y) (omega (arith, c.before.if-m-c.true, sized y))))
+    c.before.refused-then-m-c.ensures
+    ∙ sym (no b 8 (λ z. omega arith) (much_cut (m b) (f b) (cut b) (start b).args.method (start b).args.basis (passed y) (omega (arith, c.before.before.if-m-c.true, sized y))))
 
 module _ (c : Else-m-c) where
   abbrev read : Else-refusal-ne0
@@ -73,23 +86,23 @@ module _ (c : Else-m-c) where
 
 pub test_set-requires : goal.test_set-requires
 test_set-requires c =
-    let d = c.before.before in
+    let d = c.before.before.before in
     let y = read d in
-    (read_in_range (base y).read_to_forecast-refusal.ensures y.if-refusal-ne0.left, cut_least d, omega (arith, d.if-m-c.false, sized y))
+    (read_in_range (base y).read_to_forecast-refusal.ensures y.if-refusal-ne0.false, cut_least d, omega (arith, d.if-m-c.false, sized y))
 
 pub returns : goal.returns
 unfolding set_of
 returns c =
-    let l = c.before in
+    let l = c.before.before in
     let d = l.before.before in
     let y = read d in
     let b = base y in
-    c.test_set.ensures (set_of (m b) (f b)) l.line.ensures
-    ∙ ap (λ (t : TriangleSet). set_test (m b) t (cut b) (start b).args.method (start b).args.basis) (b.read_to_forecast-refusal.ensures.holds y.if-refusal-ne0.left)
+    c.before.test_set.ensures (set_of (m b) (f b)) l.line.ensures
+    ∙ ap (λ (t : TriangleSet). set_test (m b) t (cut b) (start b).args.method (start b).args.basis) (b.read_to_forecast-refusal.ensures.holds y.if-refusal-ne0.false)
     ∙ tested (m b) (f b) (cut b) (start b).args.method (start b).args.basis (passed y) (cut_least d) (omega (arith, d.if-m-c.false, sized y))
 
 pub read_to_forecast-refusal-requires : goal.read_to_forecast-refusal-requires
 read_to_forecast-refusal-requires c = refl
 
 pub overflow_sub-m : goal.overflow_sub-m
-overflow_sub-m c = omega (arith, sized c.before)
+overflow_sub-m c = omega (arith, sized c.before.before)

@@ -22,7 +22,29 @@ use Rattle.gaps.specs.GapsLaws.{gaps_small}
 use Rattle.back_test.specs.SetTest.{set_test}
 use Rattle.back_test.specs.TestLaws.{test_no, test_yes, sizes, cut_ok, cut_refusal}
 use Rattle.back_test.proofs.test_set.Goals as goal
-use Rattle.back_test.proofs.test_set.Goals.{After-gaps, After-method_bases-refusal, After-prepare-refusal, After-shares_of-shares, Else-refusal-ne0, Else-refusal-ne0-2, Start}
+use Rattle.back_test.proofs.test_set.Lts as lts
+use Rattle.back_test.proofs.test_set.Tie as tie
+use Rattle.back_test.proofs.test_set.Reads as reads
+use Rattle.back_test.proofs.test_set.Goals.{Start}
+
+-- the places, as the steps before a goal know them
+abbrev After-gaps : Type 0
+After-gaps = lts.After-gaps tie.the-claims reads.Pre reads.Post tie.handed_clauses
+
+abbrev After-method_bases-refusal : Type 0
+After-method_bases-refusal = lts.After-method_bases tie.the-claims reads.Pre reads.Post tie.handed_clauses
+
+abbrev After-prepare-refusal : Type 0
+After-prepare-refusal = lts.After-prepare tie.the-claims reads.Pre reads.Post tie.handed_clauses
+
+abbrev After-shares_of-shares : Type 0
+After-shares_of-shares = lts.After-shares_of tie.the-claims reads.Pre reads.Post tie.handed_clauses
+
+abbrev Else-refusal-ne0 : Type 0
+Else-refusal-ne0 = lts.Else1 tie.the-claims reads.Pre reads.Post tie.handed_clauses
+
+abbrev Else-refusal-ne0-2 : Type 0
+Else-refusal-ne0-2 = lts.Else2 tie.the-claims reads.Pre reads.Post tie.handed_clauses
 
 module _ (a : Start) where
   abbrev m : ℕ
@@ -59,11 +81,11 @@ module _ (e : Else-refusal-ne0) where
 
   given : Given (n (start one)) (start one).args.set.now (start one).args.method one.prepare-refusal.last.1.1.0 one.prepare-refusal.last.1.1.1.0 one.prepare-refusal.last.1.1.1.1.0 one.prepare-refusal.last.1.1.1.1.1.0 one.prepare-refusal.last.1.1.1.1.1.1.0
   given =
-      is_given one.prepare-refusal.ensures e.if-refusal-ne0.left (ok (start one)) (λ z. (prepared_so (n (start one)) (s (start one) no_set).counts (s (start one) no_set).paid z).0)
+      is_given one.prepare-refusal.ensures e.if-refusal-ne0.false (ok (start one)) (λ z. (prepared_so (n (start one)) (s (start one) no_set).counts (s (start one) no_set).paid z).0)
       (solved_range (n (start one)) (s (start one) no_set).counts (s (start one) no_set).paid)
 
   passed : (like : TriangleSet) → set_refusal (n (start one)) (s (start one) like) (start one).args.method ≡ method_refusal (n (start one)) (s (start one) like) (start one).args.method
-  passed like = let a = start one in by_method (n a) (s a like) a.args.method (lent_passed one.prepare-refusal.ensures e.if-refusal-ne0.left)
+  passed like = let a = start one in by_method (n a) (s a like) a.args.method (lent_passed one.prepare-refusal.ensures e.if-refusal-ne0.false)
 
 module _ (c : After-method_bases-refusal) where
   abbrev two : Else-refusal-ne0
@@ -88,7 +110,7 @@ module _ (c : After-shares_of-shares) where
   made = else2.before
 
   ready : Ready (n (a made)) (triangle_in 0 (a made).args.set.now) c.shares_of-shares.result (one (two made)).prepare-refusal.last.1.1.1.0 (one (two made)).prepare-refusal.last.1.1.0 made.method_bases-refusal.last.1.1.1.1.1.0 (one (two made)).prepare-refusal.last.1.1.1.1.1.1.0
-  ready = years_ready (given (two made)) no_set (made.method_bases-refusal.ensures no_set) else2.if-refusal-ne0-2.left c.shares_of-shares.ensures
+  ready = years_ready (given (two made)) no_set (made.method_bases-refusal.ensures no_set) else2.if-refusal-ne0-2.false c.shares_of-shares.ensures
 
 pub gaps-requires : goal.gaps-requires
 gaps-requires c =
@@ -119,12 +141,12 @@ returns c like line =
     let r = shared g in
     let b = base g in
     let e = two (made r) in
-    let z = e.if-refusal-ne0.left in
+    let z = e.if-refusal-ne0.false in
     let p_is = lent_delays (one e).prepare-refusal.ensures z in
     test_yes b.requires.0 b.requires.1 b.requires.2 like b.args.basis _
-    (λ i j h l w. years_cell (given e) like ((made r).method_bases-refusal.ensures like) (else2 r).if-refusal-ne0-2.left r.shares_of-shares.ensures b.args.basis i j h l w
+    (λ i j h l w. years_cell (given e) like ((made r).method_bases-refusal.ensures like) (else2 r).if-refusal-ne0-2.false r.shares_of-shares.ensures b.args.basis i j h l w
     ∙ ap (λ (q : List ℤ). record { rbns = rbns (n b) (s b like) q b.args.method b.args.basis i j; ibnr = ibnr (n b) (s b like) q b.args.method i j }) p_is)
-    (number (made r) like ∙ (else2 r).if-refusal-ne0-2.left) line g.gaps.ensures k.cell_number-cells.ensures x.cellwise-cellwise.ensures y.yearwise-yearwise.ensures c.overall-overall.ensures
+    (number (made r) like ∙ (else2 r).if-refusal-ne0-2.false) line g.gaps.ensures k.cell_number-cells.ensures x.cellwise-cellwise.ensures y.yearwise-yearwise.ensures c.overall-overall.ensures
 
 pub overflow_sub-n : goal.overflow_sub-n
 overflow_sub-n c = omega (arith, c.requires)
@@ -133,13 +155,13 @@ pub prepare-refusal-requires : goal.prepare-refusal-requires
 prepare-refusal-requires c = let b = ok c.before.before.before.before.before in record { amounts = (b.counts, b.paid); count_latest_value = (refl, refl, refl, refl) }
 
 pub method_bases-refusal-requires : goal.method_bases-refusal-requires
-method_bases-refusal-requires c = let g = given c.before.before.before.before in record { asked = g.asked; ladder = (g.paid, refl) }
+method_bases-refusal-requires c = let g = given c.before.before.before.before.before in record { asked = g.asked; ladder = (g.paid, refl) }
 
 pub shares_of-shares-requires : goal.shares_of-shares-requires
-shares_of-shares-requires c = let g = given (two c.before.before) in (ladder_ready g.counts (counts_ready g.asked.shared)).bounds
+shares_of-shares-requires c = let g = given (two c.before.before.before) in (ladder_ready g.counts (counts_ready g.asked.shared)).bounds
 
 pub cell_number-cells-requires : goal.cell_number-cells-requires
-cell_number-cells-requires c = let z = size c in (omega arith, z.1)
+cell_number-cells-requires c = let z = size c.before in (omega arith, z.1)
 
 pub cellwise-cellwise-requires : goal.cellwise-cellwise-requires
 cellwise-cellwise-requires c = let g = c.before.before in (small g, (size g).1)

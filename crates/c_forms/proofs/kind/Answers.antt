@@ -15,12 +15,12 @@ enum_told-in-Ratio c = search rules
 
 pub returns-in-BaseYear : goal.returns-in-BaseYear
 unfolding kind_of
-returns-in-BaseYear c = sym (ap kind_of c.in-BaseYear.is)
+returns-in-BaseYear c = sym (ap kind_of c.before.enum_told-1.given.1)
 
 pub returns-in-NoPaymentsYet : goal.returns-in-NoPaymentsYet
 unfolding kind_of
-returns-in-NoPaymentsYet c = sym (ap kind_of c.in-NoPaymentsYet.is)
+returns-in-NoPaymentsYet c = sym (ap kind_of c.before.enum_told-in-NoPaymentsYet-1.given.1)
 
 pub returns-in-Ratio : goal.returns-in-Ratio
 unfolding kind_of
-returns-in-Ratio c = sym (ap kind_of c.in-Ratio.is)
+returns-in-Ratio c = sym (ap kind_of c.before.enum_told-in-Ratio-1.given.1)

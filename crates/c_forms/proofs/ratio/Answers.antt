@@ -16,12 +16,12 @@ enum_known-value c = search rules
 
 pub returns-in-BaseYear : goal.returns-in-BaseYear
 unfolding ratio_of of_bits
-returns-in-BaseYear c = sym (ap ratio_of c.in-BaseYear.is)
+returns-in-BaseYear c = sym (ap ratio_of c.before.enum_told-1.given.1)
 
 pub returns-in-NoPaymentsYet : goal.returns-in-NoPaymentsYet
 unfolding ratio_of of_bits
-returns-in-NoPaymentsYet c = sym (ap ratio_of c.in-NoPaymentsYet.is)
+returns-in-NoPaymentsYet c = sym (ap ratio_of c.before.enum_told-in-NoPaymentsYet-1.given.1)
 
 pub returns-in-Ratio : goal.returns-in-Ratio
 unfolding ratio_of
-returns-in-Ratio c = sym (ap ratio_of c.before.in-Ratio.is)
+returns-in-Ratio c = sym (ap ratio_of c.before.before.value-1.given.1)

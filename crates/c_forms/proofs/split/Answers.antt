@@ -10,13 +10,8 @@ use Rattle.model.specs.ListsLaws.{listed_none, listed_next, listed_whole}
 use Rattle.model.specs.ClaimCosts.{no_float}
 use Rattle.model.specs.declared.YearInflation.{YearInflation}
 use Rattle.c_forms.specs.Inflations.{kind_of, ratio_of, inflation_at, kinds_of, ratios_of}
+use Rattle.c_forms.proofs.split.Invariants.{kind_at, ratio_at}
 use Rattle.c_forms.proofs.split.Goals as goal
-
-abbrev kind_at : List YearInflation → ℕ → ℕ
-kind_at list k = kind_of (inflation_at list k)
-
-abbrev ratio_at : List YearInflation → ℕ → Float
-ratio_at list k = ratio_of (inflation_at list k)
 
 pub loop-k-init : goal.loop-k-init
 unfolding of_bits

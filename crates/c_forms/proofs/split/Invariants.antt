@@ -11,6 +11,12 @@ use Rattle.model.specs.declared.YearInflation.{YearInflation}
 use Rattle.c_forms.specs.Inflations.{kind_of, ratio_of, inflation_at, kinds_of, ratios_of}
 use Rattle.c_forms.proofs.split.Given as goal
 
+abbrev pub kind_at : List YearInflation → ℕ → ℕ
+kind_at list k = kind_of (inflation_at list k)
+
+abbrev pub ratio_at : List YearInflation → ℕ → Float
+ratio_at list k = ratio_of (inflation_at list k)
+
 abbrev pub invariant-loop-k : goal.invariant-loop-k
 invariant-loop-k l = (l.k ≤ 20) × (l.kinds ≡ listed 20 l.k (kind_at l.initial.ratios) 0) × (l.ratios ≡ listed 20 l.k (ratio_at l.initial.ratios) no_float)
 

@@ -17,7 +17,14 @@ use Rattle.tally_text.specs.TallyTextLaws.{tally_text_length, refusal_short}
 use Rattle.calendar.specs.Respond.{text_refused, text_accepted}
 use borrow.Author.Rules.{rules}
 use Rattle.calendar.proofs.answer_file.Goals as goal
-use Rattle.calendar.proofs.answer_file.Goals.{After-forecast_into-refusal, Start}
+use Rattle.calendar.proofs.answer_file.Lts as lts
+use Rattle.calendar.proofs.answer_file.Tie as tie
+use Rattle.calendar.proofs.answer_file.Reads as reads
+use Rattle.calendar.proofs.answer_file.Goals.{Start}
+
+-- the places, as the steps before a goal know them
+abbrev After-forecast_into-refusal : Type 0
+After-forecast_into-refusal = lts.After-forecast_into tie.the-claims reads.Pre reads.Post tie.handed_clauses
 
 module _ (c : After-forecast_into-refusal) where
   abbrev start : Start
@@ -30,7 +37,7 @@ module _ (c : After-forecast_into-refusal) where
   refusal_is = c.forecast_into-refusal.ensures.value ∙ forecast_refusal_lem _ _ _ _ _ refl
 
   output_is : out ≡ forecast_output start.args.m start.args.file.now start.args.method start.args.basis (zeros 1560)
-  output_is = c.forecast_into-refusal.ensures.leftovers_after.1.0
+  output_is = c.forecast_into-refusal.ensures.out_after
 
 -- the forecast is accepted
 module _ (c : After-forecast_into-refusal) (z : c.forecast_into-refusal.result ≡ 0) where
@@ -50,33 +57,33 @@ module _ (c : After-forecast_into-refusal) (z : c.forecast_into-refusal.result �
   text_is = text_accepted m (start c).args.file.now (start c).args.method (start c).args.basis (sym (refusal_is c) ∙ z) ∙ ap (λ (out : List ℤ). tally_text m (tally_of m out)) (sym (output_is c))
 
 pub write_refusal-requires : goal.write_refusal-requires
-write_refusal-requires c = le_trans (refusal_short _ (omega (arith, c.before.before.before.forecast_into-refusal.type_inv))) (start c.before.before.before).requires
+write_refusal-requires c = le_trans (refusal_short _ (omega (arith, c.before.before.before.before.forecast_into-refusal.type_inv))) (start c.before.before.before.before).requires
 
 pub returns-then-refusal-ne0 : goal.returns-then-refusal-ne0
 returns-then-refusal-ne0 c =
-    let t = c.before.before.before.before in
+    let t = c.before.before.before.before.before in
     let w = t.before.before in
     rw (text_refused (start w).args.m (start w).args.file.now (start w).args.method (start w).args.basis w.forecast_into-refusal.result t.if-refusal-ne0.true (sym (refusal_is w)))
-    c.before.before.write_refusal.ensures
+    c.before.before.before.write_refusal.ensures
 
 pub tally_of-t-requires : goal.tally_of-t-requires
 tally_of-t-requires c =
-    let w = c.before.before.before in
-    let s = small w c.before.if-refusal-ne0.false in
+    let w = c.before.before.before.before in
+    let s = small w c.before.before.if-refusal-ne0.false in
     (s.0, s.1, omega (arith, s.2, w.forecast_into-refusal.auto), s.3)
 
 pub write_tally_text-requires : goal.write_tally_text-requires
 write_tally_text-requires c =
-    let t = c.before.before.before.before in
+    let t = c.before.before.before.before.before in
     let e = t.before.before in
     let w = e.before.before in
     let s = small w e.if-refusal-ne0.false in
     let p = printable w e.if-refusal-ne0.false in
-    rw t.tally_of-t.ensures ((s.0, s.1), (p, omega (arith, tally_text_length (m w e.if-refusal-ne0.false) _ s.1 p, (start w).requires)))
+    rw t.tally_of-t.ensures record { le_m = (s.0, s.1); printable = p; ibnr_in_bounds = omega (arith, tally_text_length (m w e.if-refusal-ne0.false) _ s.1 p, (start w).requires) }
 
 pub returns : goal.returns
 returns c =
-    let p = c.before.before in
+    let p = c.before.before.before in
     let t = p.before.before.before.before.before in
     let e = t.before.before in
     rw (text_is e.before.before e.if-refusal-ne0.false) (rw t.tally_of-t.ensures at p.write_tally_text.ensures)

@@ -10,9 +10,9 @@ shape_of-out c = search rules
 
 pub returns : goal.returns
 returns c =
-    let a = c.before.before in
+    let a = c.before.before.before in
     let s = a.before.before.before.before.before in
-    answered s.args.input.now s.args.out.now _ _ (shape_of-out c) a.answer.ensures
+    answered s.args.input.now s.args.out.now _ _ (shape_of-out c.before) a.answer.ensures
 
 pub answer-requires : goal.answer-requires
 answer-requires c = omega arith

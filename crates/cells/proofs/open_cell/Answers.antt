@@ -20,10 +20,10 @@ module _ (c : After-later-1) where
   s = c.before.before
 
   reported_back : to_z w64 (of_z w64 c.before.reported_sum-reported.result) ≡ c.before.reported_sum-reported.result
-  reported_back = to_z-of_z (record { sfits = c.before.reported_sum-reported.type_inv })
+  reported_back = to_z-of_z {w = w64} (record { sfits = c.before.reported_sum-reported.type_inv })
 
   unreported_back : to_z w64 (of_z w64 (at s.args.unreported.now s.args.j)) ≡ at s.args.unreported.now s.args.j
-  unreported_back = to_z-of_z (record { sfits = c.later-1.given })
+  unreported_back = to_z-of_z {w = w64} (record { sfits = c.later-1.given })
 
 pub scale_cell-requires : goal.scale_cell-requires
 scale_cell-requires c =
@@ -43,4 +43,4 @@ returns c =
     let v = to_z-of_z (s d).ranges.v in
     let rbns = rw (v, reported_back d, d.before.reported_sum-reported.ensures) at c.before.scale_cell.ensures in
     let ibnr = rw (v, unreported_back d) at c.scale_cell-2.ensures in
-    rw (to_z-of_z (record { sfits = c.before.scale_cell.type_inv }), to_z-of_z (record { sfits = c.scale_cell-2.type_inv }), lt-leb (a.i + a.j) a.m (omega arith), rbns, ibnr)
+    rw (to_z-of_z {w = w64} (record { sfits = c.before.scale_cell.type_inv }), to_z-of_z {w = w64} (record { sfits = c.scale_cell-2.type_inv }), lt-leb (a.i + a.j) a.m (omega arith), rbns, ibnr)

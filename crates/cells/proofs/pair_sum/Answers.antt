@@ -40,16 +40,16 @@ module _ (c : After-sum-in-loop-k-1) where
   y = at s.args.p.now (s.args.j - l.loop-k.k)
 
   x_back : to_z w64 (of_z w64 x) ≡ x
-  x_back = to_z-of_z (record { sfits = c.before.sum-1.given })
+  x_back = to_z-of_z {w = w64} (record { sfits = c.before.sum-1.given })
 
   p_back : to_z w64 (of_z w64 y) ≡ y
-  p_back = to_z-of_z (record { sfits = c.sum-in-loop-k-1.given })
+  p_back = to_z-of_z {w = w64} (record { sfits = c.sum-in-loop-k-1.given })
 
   product_fits : SFits w64 (x *ℤ y)
   product_fits =
       let h : l.loop-k.k < 20 = omega arith in
       let k : s.args.j - l.loop-k.k < 20 = omega arith in
-      let a = mul-le-mul (weight_small s.args.x.now s.requires.weights.0 l.loop-k.k h) (s.requires.weights.1 (s.args.j - l.loop-k.k) k) in
+      let a = mul-le-mul (weight_small s.args.x.now s.requires.weights l.loop-k.k h) (s.requires.delays (s.args.j - l.loop-k.k) k) in
       fits_abs (omega (arith, nat_abs-*ℤ x y))
 
   one_more : sum (l.loop-k.k + 1) (terms s) ≡ sum l.loop-k.k (terms s) +ℤ x *ℤ y
@@ -62,7 +62,7 @@ module _ (c : After-sum-in-loop-k-1) where
   next_fits : SFits w64 (sum l.loop-k.k (terms s) +ℤ x *ℤ y)
   next_fits =
       rw (← one_more)
-      (fits_abs (omega (arith, sum_small s.args.m s.args.j (λ k. leb k s.args.n) s.args.x.now s.args.p.now s.requires.weights.0 s.requires.weights.1 (omega arith) (l.loop-k.k + 1) (omega arith))))
+      (fits_abs (omega (arith, sum_small s.args.m s.args.j (λ k. leb k s.args.n) s.args.x.now s.args.p.now s.requires.weights s.requires.delays (omega arith) (l.loop-k.k + 1) (omega arith))))
 
 pub loop-k-init : goal.loop-k-init
 loop-k-init c =

@@ -24,10 +24,10 @@ module _ (c : After-result-then-basis-eq1-1) where
   sum = pairs s.args.m s.args.j (λ k. leb k (s.args.m - s.args.i)) s.args.s.now s.args.p.now
 
   whole_back : to_z w64 (of_z w64 (at s.args.whole.now s.args.j)) ≡ at s.args.whole.now s.args.j
-  whole_back = to_z-of_z (record { sfits = c.before.result-1.given })
+  whole_back = to_z-of_z {w = w64} (record { sfits = c.before.result-1.given })
 
   later_back : to_z w64 (of_z w64 (at s.args.unreported.now s.args.j)) ≡ at s.args.unreported.now s.args.j
-  later_back = to_z-of_z (record { sfits = c.result-then-basis-eq1-1.given })
+  later_back = to_z-of_z {w = w64} (record { sfits = c.result-then-basis-eq1-1.given })
 
   difference_is : to_z w64 (of_z w64 (at s.args.whole.now s.args.j)) -ℤ to_z w64 (of_z w64 (at s.args.unreported.now s.args.j)) ≡ sum
   difference_is = rw (whole_back, later_back) (whole_less_later s.requires.0 s.args.j c.before.before.if-basis-eq1.true s.requires.2)

@@ -9,11 +9,9 @@ use lib.ListN.{length, set}
 use Rattle.model.specs.Lists.{tabulate}
 use Rattle.model.specs.ListsLaws.{tabulate_last, length_tabulate}
 use Rattle.model.specs.Overlay.{overlay, overlay_none, overlay_store, length_overlay}
+use Rattle.cells.proofs.write_known.Invariants.{zeros}
 use Rattle.cells.proofs.write_known.Goals as goal
 use Rattle.cells.proofs.write_known.Goals.{At-loop-k}
-
-abbrev zeros : ℕ → List ℤ
-zeros k = tabulate k (λ _. pos 0)
 
 long : (k : ℕ) → length (zeros k) ≡ k
 long k = length_tabulate k (λ _. pos 0)

@@ -9,6 +9,9 @@ use Rattle.model.specs.ListsLaws.{tabulate_last, length_tabulate}
 use Rattle.model.specs.Overlay.{overlay, overlay_none, overlay_store, length_overlay}
 use Rattle.cells.proofs.write_known.Given as goal
 
+abbrev pub zeros : ℕ → List ℤ
+zeros k = tabulate k (λ _. pos 0)
+
 abbrev pub invariant-loop-k : goal.invariant-loop-k
 invariant-loop-k l = (l.k ≤ l.initial.out) × (l.out ≡ overlay l.from l.n (zeros l.k))
 

@@ -48,12 +48,12 @@ module _ (l : At-loop-j) where
   abbrev k : After-write_known
   k = l.before.before
 
-  so_far : l.loop-j.out-1 ≡ overlay k.write_known.last.0 (a k).args.from (entries k (2 * l.loop-j.j))
-  so_far = rw (to_z-of_z (a k).fits.v) at l.loop-j.inv.2
+  so_far : l.loop-j.out ≡ overlay k.write_known.last.0 (a k).args.from (entries k (2 * l.loop-j.j))
+  so_far = rw (to_z-of_z (a k).fits.v) at l.loop-j.invariant.2
 
-  same : length l.loop-j.out-1 ≡ length (a k).args.out.now
+  same : length l.loop-j.out ≡ length (a k).args.out.now
   same =
-      ap length (so_far ∙ over k l.loop-j.j l.loop-j.inv.0)
+      ap length (so_far ∙ over k l.loop-j.j l.loop-j.invariant.0)
       ∙ length_overlay (a k).args.out.now (a k).args.from (entries k (2 * l.loop-j.j)) (omega (arith, long k (2 * l.loop-j.j)))
 
 module _ (c : After-struct_told-in-loop-j-1) where
@@ -61,10 +61,10 @@ module _ (c : After-struct_told-in-loop-j-1) where
   l = c.before.before.before.before
 
   rbns_back : to_z w64 (of_z w64 c.before.before.open_cell-cell.result.rbns) ≡ c.before.before.open_cell-cell.result.rbns
-  rbns_back = to_z-of_z (record { sfits = c.before.struct_told-1.given.0.1 })
+  rbns_back = to_z-of_z {w = w64} (record { sfits = c.before.struct_told-1.given.0.1 })
 
   ibnr_back : to_z w64 (of_z w64 c.before.before.open_cell-cell.result.ibnr) ≡ c.before.before.open_cell-cell.result.ibnr
-  ibnr_back = to_z-of_z (record { sfits = c.struct_told-in-loop-j-1.given.1.0.1 })
+  ibnr_back = to_z-of_z {w = w64} (record { sfits = c.struct_told-in-loop-j-1.given.1.0.1 })
 
 pub loop-j-init : goal.loop-j-init
 loop-j-init c =
@@ -88,7 +88,7 @@ loop-j-preserved c =
     let cell = cell_of b.m b.v b.s.now b.p.now b.unreported.now b.i j in (
       omega arith,
       omega arith,
-      ap₂ (λ (x y : ℤ). set (set (l c).loop-j.out-1 at x) (at + 1) y) (rbns_back c ∙ ap (λ (x : Cell). x.rbns) e) (ibnr_back c ∙ ap (λ (x : Cell). x.ibnr) e)
+      ap₂ (λ (x y : ℤ). set (set (l c).loop-j.out at x) (at + 1) y) (rbns_back c ∙ ap (λ (x : Cell). x.rbns) e) (ibnr_back c ∙ ap (λ (x : Cell). x.ibnr) e)
           ∙ ap (λ (o : List ℤ). set (set o at cell.rbns) (at + 1) cell.ibnr) (so_far (l c))
           ∙ two_stored b.m b.v b.s.now b.p.now b.unreported.now b.i out₀ b.from j (omega (arith, first_length k))
           ∙ ap (λ (z : ℤ). overlay out₀ b.from (first_entries b.m z b.s.now b.p.now b.unreported.now b.i (2 * (j + 1)))) (sym v),

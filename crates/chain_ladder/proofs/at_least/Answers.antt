@@ -17,14 +17,14 @@ pub returns-then-xs-k : goal.returns-then-xs-k
 returns-then-xs-k c =
     let s = c.before.before.before.before in
     let k = c.before.before.before.loop-k.k in
-    let l : at s.args.xs.now k ⋖ s.args.least = lt_yes (rw (to_z-of_z s.ranges.least, to_z-of_z (record { sfits = c.before.t9-1.given })) at c.if-xs-k.true) in
+    let l : at s.args.xs.now k ⋖ s.args.least = lt_yes (rw (to_z-of_z s.ranges.least, to_z-of_z {w = w64} (record { sfits = c.before.t9-1.given })) at c.if-xs-k.true) in
     sym (every_no _ s.args.n k (omega arith) (le_z_false l))
 
 pub loop-k-preserved : goal.loop-k-preserved
 loop-k-preserved c =
     let s = c.before.before.before.before in
     let k = c.before.before.before.loop-k.k in
-    let l : to_z w64 (of_z w64 s.args.least) ⩽ at s.args.xs.now k = lt_no (rw (to_z-of_z (record { sfits = c.before.t9-1.given })) at c.if-xs-k.false) in
+    let l : to_z w64 (of_z w64 s.args.least) ⩽ at s.args.xs.now k = lt_no (rw (to_z-of_z {w = w64} (record { sfits = c.before.t9-1.given })) at c.if-xs-k.false) in
     (omega arith, every_more _ k c.before.before.before.loop-k.invariant.1 (le_z_true l))
 
 pub returns : goal.returns

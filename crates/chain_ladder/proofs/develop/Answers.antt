@@ -13,7 +13,35 @@ use Rattle.chain_ladder.specs.Developed.{Developed}
 use Rattle.chain_ladder.specs.DevelopedLaws.{first_9, first_10, first_11_counts, first_11_paid, none_asked, counts_sized, asked_9, asked_10, columns_9, columns_10, asked_11_counts, asked_11_paid}
 use Rattle.chain_ladder.proofs.OneTriangle.{Summed, steps_of, ok_is, ladder_of}
 use Rattle.chain_ladder.proofs.develop.Goals as goal
-use Rattle.chain_ladder.proofs.develop.Goals.{After-at_least, After-at_least-2, After-cumulative_shares, After-cumulative_shares-2, After-sums, After-sums-2, Else-not-at_least, Else-not-at_least-2, Else-not-cumulative_shares, Start}
+use Rattle.chain_ladder.proofs.develop.Lts as lts
+use Rattle.chain_ladder.proofs.develop.Tie as tie
+use Rattle.chain_ladder.proofs.develop.Reads as reads
+use Rattle.chain_ladder.proofs.develop.Goals.{After-cumulative_shares-2, Start}
+
+-- the places, as the steps before a goal know them
+abbrev After-at_least : Type 0
+After-at_least = lts.After-at_least tie.the-claims reads.Pre reads.Post tie.handed_clauses
+
+abbrev After-at_least-2 : Type 0
+After-at_least-2 = lts.After-at_least2 tie.the-claims reads.Pre reads.Post tie.handed_clauses
+
+abbrev After-cumulative_shares : Type 0
+After-cumulative_shares = lts.After-cumulative_shares tie.the-claims reads.Pre reads.Post tie.handed_clauses
+
+abbrev After-sums : Type 0
+After-sums = lts.After-sums tie.the-claims reads.Pre reads.Post tie.handed_clauses
+
+abbrev After-sums-2 : Type 0
+After-sums-2 = lts.After-sums2 tie.the-claims reads.Pre reads.Post tie.handed_clauses
+
+abbrev Else-not-at_least : Type 0
+Else-not-at_least = lts.Else1 tie.the-claims reads.Pre reads.Post tie.handed_clauses
+
+abbrev Else-not-at_least-2 : Type 0
+Else-not-at_least-2 = lts.Else2 tie.the-claims reads.Pre reads.Post tie.handed_clauses
+
+abbrev Else-not-cumulative_shares : Type 0
+Else-not-cumulative_shares = lts.Else3 tie.the-claims reads.Pre reads.Post tie.handed_clauses
 
 -- beside a refusal nothing is said of the lists
 refused : {m : ℕ} {set cl cg dl dg : List ℤ} {n : ℕ} → first_no (of_shares m (triangle_in 0 set) (triangle_in 1 set)) ≡ suc n → Developed m set (suc n) cl cg dl dg
@@ -45,12 +73,12 @@ module _ (c : After-sums) where
         some = (let l = counts_ok.least in omega arith);
         small = counts_sized m counts counts_ok;
         latest_is = c.sums.ensures.latest_after;
-        a_is = c.sums.ensures.a_after.0;
-        b_is = c.sums.ensures.a_after.1;
+        a_is = c.sums.ensures.a_after;
+        b_is = c.sums.ensures.b_after;
       }
 
-answer_9 : (c : After-at_least) → c.at_least_lem.result ≡ q9 (m c.before.before) (counts c.before.before)
-answer_9 c = let b = c.before.before in rw (counts_summed b).latest_is at c.at_least_lem.ensures ∙ asked_9 (m b) (counts b) (counts_ok b)
+answer_9 : (c : After-at_least) → c.at_least.result ≡ q9 (m c.before.before) (counts c.before.before)
+answer_9 c = let b = c.before.before in rw (counts_summed b).latest_is at c.at_least.ensures ∙ asked_9 (m b) (counts b) (counts_ok b)
 
 -- ---- the sums of paid, and question 10
 module _ (c : After-sums-2) where
@@ -61,7 +89,7 @@ module _ (c : After-sums-2) where
   one = else1.before.before.before
 
   yes_9 : q9 (m one) (counts one) ≡ true
-  yes_9 = sym (answer_9 else1.before) ∙ not-false _ else1.if-not-at_least.left
+  yes_9 = sym (answer_9 else1.before) ∙ not-false _ else1.if-not-at_least.false-raw
 
   paid_summed : Summed (m one) (paid one) c.sums-2.new.1.1.1.0 c.sums-2.new.1.1.1.1.0 c.sums-2.new.1.1.1.1.1.0
   paid_summed =
@@ -69,8 +97,8 @@ module _ (c : After-sums-2) where
         some = (counts_summed one).some;
         small = (paid_ok one).small;
         latest_is = c.sums-2.ensures.latest_after;
-        a_is = c.sums-2.ensures.a_after.0;
-        b_is = c.sums-2.ensures.a_after.1;
+        a_is = c.sums-2.ensures.a_after;
+        b_is = c.sums-2.ensures.b_after;
       }
 
 answer_10 : (c : After-at_least-2) → c.at_least-2.result ≡ q10 (m (one c.before.before)) (paid (one c.before.before))
@@ -107,7 +135,7 @@ module _ (c : After-cumulative_shares-2) where
   three = else2 else3.before
 
   yes_11 : q11 (m (base three)) (counts (base three)) ≡ true
-  yes_11 = sym (answer_11_counts else3.before) ∙ not-false _ else3.if-not-cumulative_shares.left
+  yes_11 = sym (answer_11_counts else3.before) ∙ not-false _ else3.if-not-cumulative_shares.false-raw
 
   answer_11_paid : c.cumulative_shares-2.result ≡ q11 (m (base three)) (paid (base three))
   answer_11_paid =
@@ -154,19 +182,19 @@ pub sums-requires : goal.sums-requires
 sums-requires c = let s = c.before.before.before in record { kind_bound = (omega arith, counts_sized s.args.m (triangle_in 0 s.args.set.now) s.requires.amounts.0); latest_value = (s.requires.count_latest_value.0, refl, refl) }
 
 pub at_least-requires : goal.at_least-requires
-at_least-requires c = (counts_ok c.before).small.few
+at_least-requires c = (counts_ok c.before.before).small.few
 
 pub sums-requires-2 : goal.sums-requires-2
-sums-requires-2 c = let b = c.before.before.before.before.before.before in record { kind_bound = (omega arith, (paid_ok b).small); latest_value = ((start b).requires.count_latest_value.2, refl, refl) }
+sums-requires-2 c = let b = c.before.before.before.before.before.before.before in record { kind_bound = (omega arith, (paid_ok b).small); latest_value = ((start b).requires.count_latest_value.2, refl, refl) }
 
 pub overflow_sub-m : goal.overflow_sub-m
-overflow_sub-m c = (paid_summed c.before).some
+overflow_sub-m c = (paid_summed c.before.before).some
 
 pub at_least-requires-2 : goal.at_least-requires-2
-at_least-requires-2 c = omega (arith, (paid_summed c.before).small.few)
+at_least-requires-2 c = omega (arith, (paid_summed c.before.before).small.few)
 
 pub cumulative_shares-requires : goal.cumulative_shares-requires
-cumulative_shares-requires c = let e = c.before.before.before in let b = base e in (steps_of (counts_summed b) (columns_9 (m b) (counts b) (counts_ok b) (yes_9 (two e))), (start b).requires.count_latest_value.1)
+cumulative_shares-requires c = let e = c.before.before.before.before in let b = base e in (steps_of (counts_summed b) (columns_9 (m b) (counts b) (counts_ok b) (yes_9 (two e))), (start b).requires.count_latest_value.1)
 
 pub cumulative_shares-requires-2 : goal.cumulative_shares-requires-2
 cumulative_shares-requires-2 c = let e = else2 c.before.before.before.before in let b = base e in (steps_of (paid_summed (two e)) (columns_10 (m b) (paid b) (paid_ok b) (yes_10 e)), (start b).requires.count_latest_value.3)

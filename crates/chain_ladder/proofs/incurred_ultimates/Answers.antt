@@ -16,7 +16,32 @@ use Rattle.chain_ladder.specs.Developed.{IncurredOf}
 use Rattle.chain_ladder.specs.DevelopedLaws.{A-above, B-above, latest_least, q13_is}
 use Rattle.chain_ladder.proofs.OneTriangle.{Summed, steps_of, ok_is, ladder_of, ready_of}
 use Rattle.chain_ladder.proofs.incurred_ultimates.Goals as goal
-use Rattle.chain_ladder.proofs.incurred_ultimates.Goals.{After-at_least, After-at_least-2, After-at_least-3, After-cumulative_shares, After-sums, Else-not-at_least, Else-not-at_least-2, Else-not-at_least-3, Else-not-cumulative_shares, Start}
+use Rattle.chain_ladder.proofs.incurred_ultimates.Lts as lts
+use Rattle.chain_ladder.proofs.incurred_ultimates.Tie as tie
+use Rattle.chain_ladder.proofs.incurred_ultimates.Reads as reads
+use Rattle.chain_ladder.proofs.incurred_ultimates.Goals.{After-at_least-3, Else-not-at_least-3, Start}
+
+-- the places, as the steps before a goal know them
+abbrev After-at_least : Type 0
+After-at_least = lts.After-at_least tie.the-claims reads.Pre reads.Post tie.handed_clauses
+
+abbrev After-at_least-2 : Type 0
+After-at_least-2 = lts.After-at_least2 tie.the-claims reads.Pre reads.Post tie.handed_clauses
+
+abbrev After-cumulative_shares : Type 0
+After-cumulative_shares = lts.After-cumulative_shares tie.the-claims reads.Pre reads.Post tie.handed_clauses
+
+abbrev After-sums : Type 0
+After-sums = lts.After-sums tie.the-claims reads.Pre reads.Post tie.handed_clauses
+
+abbrev Else-not-at_least : Type 0
+Else-not-at_least = lts.Else1 tie.the-claims reads.Pre reads.Post tie.handed_clauses
+
+abbrev Else-not-at_least-2 : Type 0
+Else-not-at_least-2 = lts.Else2 tie.the-claims reads.Pre reads.Post tie.handed_clauses
+
+abbrev Else-not-cumulative_shares : Type 0
+Else-not-cumulative_shares = lts.Else4 tie.the-claims reads.Pre reads.Post tie.handed_clauses
 
 -- ---- the sums
 module _ (c : After-sums) where
@@ -31,7 +56,7 @@ module _ (c : After-sums) where
 
   summed : Summed m t c.sums.new.1.1.1.0 c.sums.new.1.1.1.1.0 c.sums.new.1.1.1.1.1.0
   summed =
-      record { some = start.requires.0; small = start.requires.1; latest_is = c.sums.ensures.latest_after; a_is = c.sums.ensures.a_after.0; b_is = c.sums.ensures.a_after.1 }
+      record { some = start.requires.0; small = start.requires.1; latest_is = c.sums.ensures.latest_after; a_is = c.sums.ensures.a_after; b_is = c.sums.ensures.b_after }
 
   -- question 13 by the tests' answers
   answer : (a b l y : Bool) → A-above m t ≡ a → B-above m t ≡ b → latest_least m t ≡ l → every m (λ j. bounded (g m t j)) ≡ y
@@ -42,8 +67,8 @@ module _ (c : After-sums) where
   refused e = record { answer = sym e; ultimates = λ z. absurd (false≢true z) }
 
 -- ---- the tests
-a_is : (c : After-at_least) → let b = c.before.before in c.at_least_lem.result ≡ A-above (m b) (t b)
-a_is c = let b = c.before.before in rw (summed b).a_is at c.at_least_lem.ensures ∙ asked-A (m b) (t b) (summed b).small.few
+a_is : (c : After-at_least) → let b = c.before.before in c.at_least.result ≡ A-above (m b) (t b)
+a_is c = let b = c.before.before in rw (summed b).a_is at c.at_least.ensures ∙ asked-A (m b) (t b) (summed b).small.few
 
 module _ (c : Else-not-at_least) where
   abbrev one : After-sums
@@ -80,7 +105,7 @@ module _ (c : After-cumulative_shares) where
   -- the last test is the answer
   answer_last : q13 (m four) (t four) ≡ c.cumulative_shares.result
   answer_last =
-      answer four true true true _ (a_yes (two three)) (b_yes three) (sym (latest_is else3.before) ∙ not-false _ else3.if-not-at_least-3.left)
+      answer four true true true _ (a_yes (two three)) (b_yes three) (sym (latest_is else3.before) ∙ not-false _ else3.if-not-at_least-3.false-raw)
       (sym (ok_is (summed four) c.cumulative_shares.ensures))
 
 pub returns-then-not-at_least : goal.returns-then-not-at_least
@@ -114,16 +139,16 @@ pub sums-requires : goal.sums-requires
 sums-requires c = let s = c.before.before.before in record { kind_bound = (omega arith, s.requires.1); latest_value = (refl, refl, refl) }
 
 pub overflow_sub-m : goal.overflow_sub-m
-overflow_sub-m c = (summed c.before).some
+overflow_sub-m c = (summed c.before.before).some
 
 pub at_least-requires : goal.at_least-requires
-at_least-requires c = omega (arith, (summed c.before).small.few)
+at_least-requires c = omega (arith, (summed c.before.before).small.few)
 
 pub overflow_sub-m-2 : goal.overflow_sub-m-2
-overflow_sub-m-2 c = (summed (one c.before)).some
+overflow_sub-m-2 c = (summed (one c.before.before)).some
 
 pub at_least-requires-2 : goal.at_least-requires-2
-at_least-requires-2 c = omega (arith, (summed (one c.before)).small.few)
+at_least-requires-2 c = omega (arith, (summed (one c.before.before)).small.few)
 
 pub at_least-requires-3 : goal.at_least-requires-3
 at_least-requires-3 c = (summed (one (two c.before))).small.few

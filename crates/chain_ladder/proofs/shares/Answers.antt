@@ -4,10 +4,10 @@ use Rattle.chain_ladder.proofs.shares.Goals as goal
 
 pub returns : goal.returns
 returns c =
-    let w = c.before.before in
+    let w = c.before.before.before in
     let s = w.before.before.before.before.before.before.before in
     let e = w.shares_into-refusal.ensures in
-    shares_whole s.args.m s.args.file.now e.0 c.Store-Line.ensures e.1.0 e.1.1.0 e.1.1.1.0 e.1.1.1.1.0 e.1.1.1.1.1
+    shares_whole s.args.m s.args.file.now e.0 c.before.Store-Line.ensures e.1.0 e.1.1.0 e.1.1.1.0 e.1.1.1.1.0 e.1.1.1.1.1
 
 pub shares_into-refusal-requires : goal.shares_into-refusal-requires
 shares_into-refusal-requires c = tt

@@ -18,7 +18,23 @@ use Rattle.chain_ladder.specs.DevelopedLaws.{Shared, shared_set, counts_ready, p
 use Rattle.ladder.specs.LadderLaws.{ladder_ready, ladder_shares, ladder_ultimates}
 use Rattle.chain_ladder.specs.Valid.{counts_of, paid_of}
 use Rattle.chain_ladder.proofs.shares_into.Goals as goal
-use Rattle.chain_ladder.proofs.shares_into.Goals.{After-develop-refusal, After-read_cells-refusal, Else-refusal-ne0, Else-refusal-ne0-2, Start}
+use Rattle.chain_ladder.proofs.shares_into.Lts as lts
+use Rattle.chain_ladder.proofs.shares_into.Tie as tie
+use Rattle.chain_ladder.proofs.shares_into.Reads as reads
+use Rattle.chain_ladder.proofs.shares_into.Goals.{Start}
+
+-- the places, as the steps before a goal know them
+abbrev After-develop-refusal : Type 0
+After-develop-refusal = lts.After-develop tie.the-claims reads.Pre reads.Post tie.handed_clauses
+
+abbrev After-read_cells-refusal : Type 0
+After-read_cells-refusal = lts.After-read_cells tie.the-claims reads.Pre reads.Post tie.handed_clauses
+
+abbrev Else-refusal-ne0 : Type 0
+Else-refusal-ne0 = lts.Else1 tie.the-claims reads.Pre reads.Post tie.handed_clauses
+
+abbrev Else-refusal-ne0-2 : Type 0
+Else-refusal-ne0-2 = lts.Else2 tie.the-claims reads.Pre reads.Post tie.handed_clauses
 
 module _ (c : After-read_cells-refusal) where
   abbrev start : Start
@@ -79,53 +95,38 @@ module _ (c : Else-refusal-ne0-2) where
 
 pub returns-then-refusal-ne0 : goal.returns-then-refusal-ne0
 returns-then-refusal-ne0 c =
-    let o = c.if-refusal-ne0.true in
-    let b = c.before in
+    let o = c.before.if-refusal-ne0.true in
+    let b = c.before.before in
     let e = b.read_cells-refusal.ensures.result in
-    (e ∙ sym (shares_refusal_lem (m b) (f b) ∙ shares_first (m b) (f b) (λ z. o (e ∙ z))), (sym (if_refused _ _ _ o), (sym (if_refused _ _ _ o), (sym (if_refused _ _ _ o), (sym (if_refused _ _ _ o), sym (if_refused _ _ _ o))))))
+    record { value = e ∙ sym (shares_refusal_lem (m b) (f b) ∙ shares_first (m b) (f b) (λ z. o (e ∙ z))); b_after = sym (if_refused _ _ _ o); n_after = sym (if_refused _ _ _ o); q_after = sym (if_refused _ _ _ o); g_after = sym (if_refused _ _ _ o); u_after = sym (if_refused _ _ _ o) }
 
 pub returns-then-refusal-ne0-2 : goal.returns-then-refusal-ne0-2
 returns-then-refusal-ne0-2 c =
-    let o = c.if-refusal-ne0-2.true in
-    let b = one (two c.before) in
-    (sym (shares_refusal_lem (m b) (f b) ∙ refused_by c.before), (sym (if_refused _ _ _ o), (sym (if_refused _ _ _ o), (sym (if_refused _ _ _ o), (sym (if_refused _ _ _ o), sym (if_refused _ _ _ o))))))
+    let o = c.before.if-refusal-ne0-2.true in
+    let b = one (two c.before.before) in
+    record { value = sym (shares_refusal_lem (m b) (f b) ∙ refused_by c.before.before); b_after = sym (if_refused _ _ _ o); n_after = sym (if_refused _ _ _ o); q_after = sym (if_refused _ _ _ o); g_after = sym (if_refused _ _ _ o); u_after = sym (if_refused _ _ _ o) }
 
 pub returns : goal.returns
 unfolding shares_of
 returns c =
-    let e = c.before.before.before.before.before.before.before.before.before.before in
+    let e = c.before.before.before.before.before.before.before.before.before.before.before in
     let b = base e in
-    let n = c.before.before.before.before.before in (
-      sym (shares_refusal_lem (m b) (f b) ∙ refused_by (made e) ∙ e.if-refusal-ne0-2.false),
-      (
-        n.before.before.before.shares_of.ensures ∙ ladder_shares (counts e) (few e) ∙ ap (λ (x : SharesAnswer). x.b) (answer_is e),
-        (
-          n.ultimates.ensures ∙ ladder_ultimates (counts e) (few e) ∙ ap (λ (x : SharesAnswer). x.n) (answer_is e),
-          (
-            c.before.before.before.shares_of-2.ensures ∙ ladder_shares (paid e) (few e) ∙ ap (λ (x : SharesAnswer). x.q) (answer_is e),
-            (
-              (paid e).g_is ∙ ap (λ (x : SharesAnswer). x.g) (answer_is e),
-              c.ultimates-2.ensures ∙ ladder_ultimates (paid e) (few e) ∙ ap (λ (x : SharesAnswer). x.u) (answer_is e),
-            ),
-          ),
-        ),
-      ),
-    )
+    let n = c.before.before.before.before.before.before in record { value = sym (shares_refusal_lem (m b) (f b) ∙ refused_by (made e) ∙ e.if-refusal-ne0-2.false); b_after = n.before.before.before.shares_of.ensures ∙ ladder_shares (counts e) (few e) ∙ ap (λ (x : SharesAnswer). x.b) (answer_is e); n_after = n.ultimates.ensures ∙ ladder_ultimates (counts e) (few e) ∙ ap (λ (x : SharesAnswer). x.n) (answer_is e); q_after = c.before.before.before.before.shares_of-2.ensures ∙ ladder_shares (paid e) (few e) ∙ ap (λ (x : SharesAnswer). x.q) (answer_is e); g_after = (paid e).g_is ∙ ap (λ (x : SharesAnswer). x.g) (answer_is e); u_after = c.before.ultimates-2.ensures ∙ ladder_ultimates (paid e) (few e) ∙ ap (λ (x : SharesAnswer). x.u) (answer_is e) }
 
 pub read_cells-refusal-requires : goal.read_cells-refusal-requires
 read_cells-refusal-requires c = refl
 
 pub develop-refusal-requires : goal.develop-refusal-requires
-develop-refusal-requires c = let e = c.before.before.before.before.before in let s = lent_set (set_of (m (one e)) (f (one e))) (lent (one e)) in record { amounts = (counts_of (m (one e)) s (read e).valid, paid_of (m (one e)) s (read e).valid); count_latest_value = (refl, refl, refl, refl) }
+develop-refusal-requires c = let e = c.before.before.before.before.before.before in let s = lent_set (set_of (m (one e)) (f (one e))) (lent (one e)) in record { amounts = (counts_of (m (one e)) s (read e).valid, paid_of (m (one e)) s (read e).valid); count_latest_value = (refl, refl, refl, refl) }
 
 pub shares_of-requires : goal.shares_of-requires
-shares_of-requires c = (ladder_ready (counts c.before) (counts_ready (shared c.before))).bounds
+shares_of-requires c = (ladder_ready (counts c.before.before) (counts_ready (shared c.before.before))).bounds
 
 pub ultimates-requires : goal.ultimates-requires
-ultimates-requires c = let e = c.before.before.before.before in ladder_ready (counts e) (counts_ready (shared e))
+ultimates-requires c = let e = c.before.before.before.before.before in ladder_ready (counts e) (counts_ready (shared e))
 
 pub shares_of-requires-2 : goal.shares_of-requires-2
-shares_of-requires-2 c = let e = c.before.before.before.before.before.before in (ladder_ready (paid e) (paid_ready (shared e))).bounds
+shares_of-requires-2 c = let e = c.before.before.before.before.before.before.before in (ladder_ready (paid e) (paid_ready (shared e))).bounds
 
 pub ultimates-requires-2 : goal.ultimates-requires-2
-ultimates-requires-2 c = let e = c.before.before.before.before.before.before.before.before.before in ladder_ready (paid e) (paid_ready (shared e))
+ultimates-requires-2 c = let e = c.before.before.before.before.before.before.before.before.before.before in ladder_ready (paid e) (paid_ready (shared e))

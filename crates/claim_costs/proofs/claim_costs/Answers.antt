@@ -12,7 +12,16 @@ use Rattle.chain_ladder.specs.Valid.{counts_of, paid_of}
 use Rattle.claim_costs.specs.Costs.{costs_of_set}
 use Rattle.claim_costs.specs.CostsLaws.{file_no, file_yes}
 use Rattle.claim_costs.proofs.claim_costs.Goals as goal
-use Rattle.claim_costs.proofs.claim_costs.Goals.{After-read_cells-refusal, Else-refusal-ne0}
+use Rattle.claim_costs.proofs.claim_costs.Lts as lts
+use Rattle.claim_costs.proofs.claim_costs.Tie as tie
+use Rattle.claim_costs.proofs.claim_costs.Reads as reads
+
+-- the places, as the steps before a goal know them
+abbrev After-read_cells-refusal : Type 0
+After-read_cells-refusal = lts.After-read_cells tie.the-claims reads.Pre reads.Post tie.handed_clauses
+
+abbrev Else-refusal-ne0 : Type 0
+Else-refusal-ne0 = lts.Else1 tie.the-claims reads.Pre reads.Post tie.handed_clauses
 
 module _ (c : After-read_cells-refusal) where
   abbrev m : ℕ
@@ -30,22 +39,22 @@ file c = accepted (m c.before) (f c.before) c.before.read_cells-refusal.ensures 
 
 pub returns-then-refusal-ne0 : goal.returns-then-refusal-ne0
 returns-then-refusal-ne0 c =
-    let b = c.before.before in
-    c.refused.ensures ∙ sym (file_no (m b) (f b) _ (sym b.read_cells-refusal.ensures.result) c.before.if-refusal-ne0.true)
+    let b = c.before.before.before in
+    c.before.refused.ensures ∙ sym (file_no (m b) (f b) _ (sym b.read_cells-refusal.ensures.result) c.before.before.if-refusal-ne0.true)
 
 pub claim_costs_of_set-requires : goal.claim_costs_of_set-requires
 claim_costs_of_set-requires c =
-    let e = c.before.before in
+    let e = c.before.before.before in
     let b = e.before in
     (counts_of (m b) (set b) (file e).valid, paid_of (m b) (set b) (file e).valid)
 
 pub returns : goal.returns
 unfolding set_of
 returns c =
-    let l = c.before in
+    let l = c.before.before in
     let e = l.before.before in
     let b = e.before in
-    c.claim_costs_of_set.ensures (set_of (m b) (f b)) l.line.ensures ∙ ap (costs_of_set (m b)) (file e).is ∙ sym (file_yes (m b) (f b) (file e).read)
+    c.before.claim_costs_of_set.ensures (set_of (m b) (f b)) l.line.ensures ∙ ap (costs_of_set (m b)) (file e).is ∙ sym (file_yes (m b) (f b) (file e).read)
 
 pub read_cells-refusal-requires : goal.read_cells-refusal-requires
 read_cells-refusal-requires c = refl

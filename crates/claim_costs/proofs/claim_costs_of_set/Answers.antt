@@ -18,7 +18,20 @@ use Rattle.ladder.specs.LadderLaws.{ladder_ready, ladder_ultimates}
 use Rattle.claim_costs.specs.Costs.{mean_costs, cost_at}
 use Rattle.claim_costs.specs.CostsLaws.{mu_positive, costs_exact, factors_exact, costs_are, factors_are, at_mean_costs, inflations_are, set_no, set_yes}
 use Rattle.claim_costs.proofs.claim_costs_of_set.Goals as goal
-use Rattle.claim_costs.proofs.claim_costs_of_set.Goals.{After-develop-refusal, After-quotients-costs, After-sums, After-ultimates-u, Else-refusal-ne0, Start}
+use Rattle.claim_costs.proofs.claim_costs_of_set.Lts as lts
+use Rattle.claim_costs.proofs.claim_costs_of_set.Tie as tie
+use Rattle.claim_costs.proofs.claim_costs_of_set.Reads as reads
+use Rattle.claim_costs.proofs.claim_costs_of_set.Goals.{After-quotients-costs, After-ultimates-u, Start}
+
+-- the places, as the steps before a goal know them
+abbrev After-develop-refusal : Type 0
+After-develop-refusal = lts.After-develop tie.the-claims reads.Pre reads.Post tie.handed_clauses
+
+abbrev After-sums : Type 0
+After-sums = lts.After-sums tie.the-claims reads.Pre reads.Post tie.handed_clauses
+
+abbrev Else-refusal-ne0 : Type 0
+Else-refusal-ne0 = lts.Else1 tie.the-claims reads.Pre reads.Post tie.handed_clauses
 
 module _ (c : After-develop-refusal) where
   abbrev start : Start
@@ -52,10 +65,10 @@ module _ (c : After-ultimates-u) where
   base = one else1
 
   n_is : c.before.before.before.ultimates-n.result ≡ Shares.ultimates-n (m base) (s base no_set).counts
-  n_is = c.before.before.before.ultimates-n.ensures ∙ ladder_ultimates (base.develop-refusal.ensures.counts else1.if-refusal-ne0.left) (most_size base)
+  n_is = c.before.before.before.ultimates-n.ensures ∙ ladder_ultimates (base.develop-refusal.ensures.counts else1.if-refusal-ne0.false) (most_size base)
 
   u_is : c.ultimates-u.result ≡ Shares.ultimates-n (m base) (s base no_set).paid
-  u_is = c.ultimates-u.ensures ∙ ladder_ultimates (base.develop-refusal.ensures.paid else1.if-refusal-ne0.left) (most_size base)
+  u_is = c.ultimates-u.ensures ∙ ladder_ultimates (base.develop-refusal.ensures.paid else1.if-refusal-ne0.false) (most_size base)
 
 -- the mean costs, and mu
 module _ (c : After-quotients-costs) where
@@ -91,14 +104,14 @@ returns c like line =
     let q = three w in
     let b = made q in
     set_yes (m b) (s b like) (shared (else1 (two q))).asked line (mu_is q like)
-    (f.quotients-factors.ensures ∙ factors_are (m b) (s b like) (most_size b) w.sums.ensures.a_after.1 w.sums.ensures.a_after.0)
+    (f.quotients-factors.ensures ∙ factors_are (m b) (s b like) (most_size b) w.sums.ensures.b_after w.sums.ensures.a_after)
     (c.inflations.ensures ∙ inflations_are (m b) (s b like) (most_size b) (least_size b) (u_is (two q)) (costs_is q like))
 
 pub develop-refusal-requires : goal.develop-refusal-requires
 develop-refusal-requires c = let p = c.before.before.before.before.requires in record { amounts = p; count_latest_value = (refl, refl, refl, refl) }
 
 pub ultimates-n-requires : goal.ultimates-n-requires
-ultimates-n-requires c = let e = c.before.before in ladder_ready ((one e).develop-refusal.ensures.counts e.if-refusal-ne0.false) (counts_ready (shared e))
+ultimates-n-requires c = let e = c.before.before.before in ladder_ready ((one e).develop-refusal.ensures.counts e.if-refusal-ne0.false) (counts_ready (shared e))
 
 pub ultimates-u-requires : goal.ultimates-u-requires
 ultimates-u-requires c = let e = c.before.before.before.before.before in ladder_ready ((one e).develop-refusal.ensures.paid e.if-refusal-ne0.false) (paid_ready (shared e))
@@ -113,7 +126,7 @@ pub overflow_sub-m : goal.overflow_sub-m
 overflow_sub-m c = least_size (made (three c.before.before))
 
 pub quotients-factors-requires : goal.quotients-factors-requires
-quotients-factors-requires c = let w = c.before.before in factors_exact (shared (else1 (two (three w)))) w.sums.ensures.a_after.1 w.sums.ensures.a_after.0
+quotients-factors-requires c = let w = c.before.before in factors_exact (shared (else1 (two (three w)))) w.sums.ensures.b_after w.sums.ensures.a_after
 
 pub inflations-requires : goal.inflations-requires
 inflations-requires c = let q = three c.before.before.before.before.before in (most_size (made q), mu_above q)

@@ -15,16 +15,14 @@ use Rattle.model.specs.ClaimCosts.{year_inflation}
 use Rattle.model.specs.declared.YearInflation.{YearInflation}
 use Rattle.model.specs.declared.Inflation.TheVariants.{NoPaymentsYet}
 use Rattle.claim_costs.specs.Costs.{cost_at, inflation_of}
+use Rattle.claim_costs.proofs.inflations.Invariants.{entry}
 use Rattle.claim_costs.proofs.inflations.Goals as goal
-
-abbrev entry : List ℤ → List Float → Float → ℕ → YearInflation
-entry ultimates costs mu k = year_inflation (inflation_of (suc k) (at ultimates k) (cost_at costs k) mu)
 
 pub loop-k-preserved : goal.loop-k-preserved
 loop-k-preserved c =
     let l = c.before.before.before.before in
     let u = at l.before.args.ultimates.now l.loop-k.k in
-    let e : to_z w64 (of_z w64 u) ≡ u = to_z-of_z (record { sfits = c.before.before.u-1.given }) in
+    let e : to_z w64 (of_z w64 u) ≡ u = to_z-of_z {w = w64} (record { sfits = c.before.before.u-1.given }) in
     (omega arith, listed_next 20 l.loop-k.k _ (year_inflation NoPaymentsYet) (omega arith) l.loop-k.invariant.1 (ap year_inflation (rw (e, add-one) at c.inflation.ensures)))
 
 pub returns : goal.returns

@@ -10,7 +10,7 @@ unfolding ClaimCosts.quotient
 returns c = search rules
 
 pub int_to_float-result : goal.int_to_float-result
-int_to_float-result c = rw (to_z-of_z c.before.ranges.x) (held _ c.before.requires.over)
+int_to_float-result c = rw (to_z-of_z c.before.before.ranges.x) (held _ c.before.before.requires.over)
 
 pub int_to_float-result-2 : goal.int_to_float-result-2
 int_to_float-result-2 c = rw (to_z-of_z c.before.before.ranges.y) (held _ c.before.before.requires.under)

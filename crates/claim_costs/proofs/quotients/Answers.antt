@@ -12,11 +12,9 @@ use Rattle.model.specs.Lists.{at, listed}
 use Rattle.model.specs.ListsLaws.{listed_none, listed_next}
 use Rattle.model.specs.ClaimCosts as ClaimCosts
 use Rattle.model.specs.ClaimCosts.{no_float}
+use Rattle.claim_costs.proofs.quotients.Invariants.{entry}
 use Rattle.claim_costs.proofs.quotients.Goals as goal
 use Rattle.claim_costs.proofs.quotients.Goals.{After-y-1, Start}
-
-abbrev entry : List ℤ → List ℤ → ℕ → Float
-entry xs ys k = ClaimCosts.quotient (at xs k) (at ys k)
 
 -- the two numbers, as they are read
 module _ (c : After-y-1) where
@@ -27,10 +25,10 @@ module _ (c : After-y-1) where
   k = c.before.before.before.loop-k.k
 
   x_is : to_z w64 (of_z w64 (at start.args.xs.now k)) ≡ at start.args.xs.now k
-  x_is = to_z-of_z (record { sfits = c.before.x-1.given })
+  x_is = to_z-of_z {w = w64} (record { sfits = c.before.x-1.given })
 
   y_is : to_z w64 (of_z w64 (at start.args.ys.now k)) ≡ at start.args.ys.now k
-  y_is = to_z-of_z (record { sfits = c.y-1.given })
+  y_is = to_z-of_z {w = w64} (record { sfits = c.y-1.given })
 
 pub loop-k-init : goal.loop-k-init
 unfolding of_bits

@@ -31,10 +31,10 @@ module _ (c : Start) where
   t = tally_in c.args.rbns.now c.args.ibnr.now
 
   is_date_lem : is_date v ≡ true
-  is_date_lem = (valued v c.requires.valuation_value.0.0).date
+  is_date_lem = (valued v c.requires.valuation_value.0).date
 
   date_year : date.year ≤ 9999
-  date_year = omega (arith, (valued v c.requires.valuation_value.0.0).to, year_within v date is_date_lem c.requires.valuation_value.0.1 38 c.requires.valuation_value.1.1)
+  date_year = omega (arith, (valued v c.requires.valuation_value.0).to, year_within v date is_date_lem c.requires.valuation_value.1 38 c.requires.valuation_bound.1)
 
 -- the forecast year, its days and those that have passed
 module _ (c : After-forecast_year-year) where
@@ -51,7 +51,7 @@ module _ (c : After-forecast_year-year) where
   in_year_lem = rw c.before.day_number-day.ensures at c.forecast_year-year.ensures.in_year_lem
 
   few : k ≤ 38
-  few = years_within (v start) (is_date_lem start) 38 k day in_year_lem start.requires.valuation_value.1.1
+  few = years_within (v start) (is_date_lem start) 38 k day in_year_lem start.requires.valuation_bound.1
 
   abbrev made_days : ℕ
   made_days = c.forecast_year-year.result.next - c.forecast_year-year.result.start
@@ -83,10 +83,10 @@ module _ (c : After-year_total-total) where
   year = c.before.before.before.before
 
   full_is : to_z w64 (of_z w64 c.before.full_years-full.result) ≡ full_years (t (start year)) (k year)
-  full_is = to_z-of_z (sfits_of c.before.full_years-full.type_inv) ∙ c.before.full_years-full.ensures
+  full_is = to_z-of_z {w = w64} (sfits_of c.before.full_years-full.type_inv) ∙ c.before.full_years-full.ensures
 
   total_is : to_z w64 (of_z w64 c.year_total-total.result) ≡ year_total (t (start year)) (k year)
-  total_is = to_z-of_z (sfits_of c.year_total-total.type_inv) ∙ c.year_total-total.ensures
+  total_is = to_z-of_z {w = w64} (sfits_of c.year_total-total.type_inv) ∙ c.year_total-total.ensures
 
 -- what `round_share` asks, of these four numbers
 small : (y : After-forecast_year-year) {whole part passed days : ℤ} → whole ≡ full_years (t (start y)) (k y) → part ≡ year_total (t (start y)) (k y) → passed ≡ pos (made_passed y) → days ≡ pos (made_days y)
@@ -109,12 +109,12 @@ returns c =
     let s = start y in
     let p = s.requires.modest in
     let e : to_z w64 (of_z w64 c.round_share.result) ≡ due_in_year (t s) (v s) (k y) (day y) =
-    to_z-of_z (sfits_of c.round_share.type_inv)
+    to_z-of_z {w = w64} (sfits_of c.round_share.type_inv)
     ∙ rw (days_back y, passed_back y, full_is c.before, total_is c.before, days_are y, passed_are y) at c.round_share.ensures in
     (λ n h. e ∙ sym (due_is (t s) (v s) (is_date_lem s) (k y) n (day y) (in_year_lem y) h), rw e (due_small (t s) (v s) (is_date_lem s) (k y) p.0 p.1 (few y) (day y) (in_year_lem y)))
 
 pub day_number-day-requires : goal.day_number-day-requires
-day_number-day-requires c = (c.requires.valuation_value.0.1, date_year c)
+day_number-day-requires c = (c.requires.valuation_value.1, date_year c)
 
 pub full_years-full-requires : goal.full_years-full-requires
 full_years-full-requires c = let y = c.before.before in ((start y).requires.modest.0, (start y).requires.modest.1, few y)

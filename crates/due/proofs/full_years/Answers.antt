@@ -24,8 +24,8 @@ module _ (c : After-spaced_sum-2) where
   both : to_z w64 (of_z w64 c.before.before.spaced_sum.result) +ℤ to_z w64 (of_z w64 c.spaced_sum-2.result) ≡ full
   unfolding full_years
   both =
-      ap₂ ◌+ℤ◌ (to_z-of_z (sfits_of c.before.before.spaced_sum.type_inv) ∙ c.before.before.spaced_sum.ensures ∙ total_is start.args.k start.args.rbns.now)
-      (to_z-of_z (sfits_of c.spaced_sum-2.type_inv) ∙ c.spaced_sum-2.ensures ∙ total_is start.args.k start.args.ibnr.now)
+      ap₂ ◌+ℤ◌ (to_z-of_z {w = w64} (sfits_of c.before.before.spaced_sum.type_inv) ∙ c.before.before.spaced_sum.ensures ∙ total_is start.args.k start.args.rbns.now)
+      (to_z-of_z {w = w64} (sfits_of c.spaced_sum-2.type_inv) ∙ c.spaced_sum-2.ensures ∙ total_is start.args.k start.args.ibnr.now)
 
   fits : SFits w64 full
   fits = let p = start.requires in fits_abs (omega (arith, full_small (tally_in start.args.rbns.now start.args.ibnr.now) p.0 p.1 start.args.k p.2))

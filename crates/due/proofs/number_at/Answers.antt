@@ -1,4 +1,5 @@
 -- `cash::number_at` meets its contract. Assumes nothing.
+use mir.Syntax.{w64}
 use borrow.Author.Rules.{rules, sfits_of}
 use lib.IntN.{pos}
 use lib.ListN.{get_or-eq_default}
@@ -10,4 +11,4 @@ pub returns-then-xs-k : goal.returns-then-xs-k
 returns-then-xs-k c = sym (get_or-eq_default c.before.args.xs.now (pos 0) c.if-xs-k.true)
 
 pub returns : goal.returns
-returns c = to_z-of_z (sfits_of c.result-1.given)
+returns c = to_z-of_z {w = w64} (sfits_of c.result-1.given)

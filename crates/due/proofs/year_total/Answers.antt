@@ -23,8 +23,8 @@ module _ (c : After-number_at-2) where
   both : to_z w64 (of_z w64 c.before.before.number_at.result) +ℤ to_z w64 (of_z w64 c.number_at-2.result) ≡ total
   unfolding year_total
   both =
-      ap₂ ◌+ℤ◌ (to_z-of_z (sfits_of c.before.before.number_at.type_inv) ∙ c.before.before.number_at.ensures)
-      (to_z-of_z (sfits_of c.number_at-2.type_inv) ∙ c.number_at-2.ensures)
+      ap₂ ◌+ℤ◌ (to_z-of_z {w = w64} (sfits_of c.before.before.number_at.type_inv) ∙ c.before.before.number_at.ensures)
+      (to_z-of_z {w = w64} (sfits_of c.number_at-2.type_inv) ∙ c.number_at-2.ensures)
 
   fits : SFits w64 total
   fits = let p = start.requires in fits_abs (omega (arith, year_small (tally_in start.args.rbns.now start.args.ibnr.now) p.0 p.1 start.args.k))

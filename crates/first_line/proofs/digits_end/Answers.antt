@@ -10,21 +10,21 @@ use Rattle.first_line.proofs.digits_end.Goals as goal
 
 pub returns-then-b-lt48 : goal.returns-then-b-lt48
 returns-then-b-lt48 c =
-    let i = c.before.before in
+    let i = c.before.before.before in
     let l = i.before in
-    omega (arith, front_stop l.before.args.s.now l.loop-i.i i.loop-i-test.true (low_digit _ c.if-b-lt48.true))
+    omega (arith, front_stop l.before.args.s.now l.loop-i.i i.loop-i-test.true (low_digit _ c.before.if-b-lt48.true))
 
 pub returns-then-b-gt57 : goal.returns-then-b-gt57
 returns-then-b-gt57 c =
-    let i = c.before.before.before in
+    let i = c.before.before.before.before in
     let l = i.before in
-    omega (arith, front_stop l.before.args.s.now l.loop-i.i i.loop-i-test.true (high_digit _ c.if-b-gt57.true))
+    omega (arith, front_stop l.before.args.s.now l.loop-i.i i.loop-i-test.true (high_digit _ c.before.if-b-gt57.true))
 
 pub loop-i-preserved : goal.loop-i-preserved
 loop-i-preserved c =
-    let i = c.before.before.before in
+    let i = c.before.before.before.before in
     let l = i.before in
-    omega (arith, front_more l.before.args.s.now l.loop-i.i i.loop-i-test.true (in_digit _ c.before.if-b-lt48.false c.if-b-gt57.false))
+    omega (arith, front_more l.before.args.s.now l.loop-i.i i.loop-i-test.true (in_digit _ c.before.before.if-b-lt48.false c.before.if-b-gt57.false))
 
 pub returns : goal.returns
 returns c = omega (arith, front_end c.before.before.args.s.now c.before.loop-i.i c.loop-i-test.false)

@@ -14,7 +14,7 @@ use Rattle.forecast.proofs.forecast.Goals as goal
 pub returns : goal.returns
 unfolding forecast_refusal forecast_answer forecast_output of_forecast of_either asks_delays either_delays delays_of
 returns c =
-    let w = c.before.before.before in
+    let w = c.before.before.before.before in
     let a = w.before.before.before.before.args in
     let e = w.forecast_into-refusal.ensures in
-    record { result = by_value a.m a.file.now a.method a.basis false [] a.out-1.now e c.Store-Line.ensures; output = e.1.1.0; reserve = e.1.1.1 }
+    record { result = by_value a.m a.file.now a.method a.basis false [] a.out-1.now e c.before.Store-Line.ensures; output = e.1.1.0; reserve = e.1.1.1 }

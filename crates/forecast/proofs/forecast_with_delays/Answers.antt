@@ -12,7 +12,7 @@ use Rattle.forecast.proofs.forecast_with_delays.Goals as goal
 pub returns : goal.returns
 unfolding forecast_with_refusal forecast_with_answer forecast_with_output of_forecast_with of_either asks_delays either_delays
 returns c =
-    let w = c.before.before.before in
+    let w = c.before.before.before.before in
     let a = w.before.before.before.before.args in
     let e = w.forecast_with_delays_into-refusal.ensures in
-    record { result = by_value a.m a.file.now a.method a.basis true a.delays.now a.out-1.now e c.Store-Line.ensures; output = e.1.1.0; reserve = e.1.1.1 }
+    record { result = by_value a.m a.file.now a.method a.basis true a.delays.now a.out-1.now e c.before.Store-Line.ensures; output = e.1.1.0; reserve = e.1.1.1 }

@@ -13,7 +13,20 @@ use Rattle.model.specs.Lent.{lent_set}
 use Rattle.chain_ladder.specs.Accepted.{Accepted, accepted}
 use Rattle.chain_ladder.specs.Valid.{few}
 use Rattle.forecast.proofs.read_to_forecast.Goals as goal
-use Rattle.forecast.proofs.read_to_forecast.Goals.{After-q6, After-read_cells-refusal, Else-refusal-ne0, Start}
+use Rattle.forecast.proofs.read_to_forecast.Lts as lts
+use Rattle.forecast.proofs.read_to_forecast.Tie as tie
+use Rattle.forecast.proofs.read_to_forecast.Reads as reads
+use Rattle.forecast.proofs.read_to_forecast.Goals.{Start}
+
+-- the places, as the steps before a goal know them
+abbrev After-q6 : Type 0
+After-q6 = lts.After-q6 tie.the-claims reads.Pre reads.Post tie.handed_clauses
+
+abbrev After-read_cells-refusal : Type 0
+After-read_cells-refusal = lts.After-read_cells tie.the-claims reads.Pre reads.Post tie.handed_clauses
+
+abbrev Else-refusal-ne0 : Type 0
+Else-refusal-ne0 = lts.Else1 tie.the-claims reads.Pre reads.Post tie.handed_clauses
 
 module _ (c : After-read_cells-refusal) where
   abbrev start : Start
@@ -36,30 +49,30 @@ asked_6 c =
 
 pub returns-then-refusal-ne0 : goal.returns-then-refusal-ne0
 returns-then-refusal-ne0 c =
-    let b = c.before in
+    let b = c.before.before in
     let e = b.read_cells-refusal.ensures.result in
-    let o = c.if-refusal-ne0.true in
+    let o = c.before.if-refusal-ne0.true in
     record { refusal = e ∙ sym (file_no (m b) (f b) (start b).args.method (start b).args.basis (λ z. o (e ∙ z))); holds = λ z. absurd (o z) }
 
 pub returns-then-not-q6 : goal.returns-then-not-q6
 returns-then-not-q6 c =
-    let k = c.before in
+    let k = c.before.before in
     let y = k.before.before in
     let b = y.before in
     record {
-      refusal = sym (six_no (m b) (f b) (start b).args.method (start b).args.basis (file y).read (sym (asked_6 k) ∙ not-true _ c.if-not-q6.true-raw));
+      refusal = sym (six_no (m b) (f b) (start b).args.method (start b).args.basis (file y).read (sym (asked_6 k) ∙ not-true _ c.before.if-not-q6.true-raw));
       holds = λ z. absurd (omega arith);
     }
 
 pub returns : goal.returns
 returns c =
-    let k = c.before in
+    let k = c.before.before in
     let y = k.before.before in
     let b = y.before in
     record {
-      refusal = sym (six_yes (m b) (f b) (start b).args.method (start b).args.basis (file y).read (sym (asked_6 k) ∙ not-false _ c.if-not-q6.false-raw));
+      refusal = sym (six_yes (m b) (f b) (start b).args.method (start b).args.basis (file y).read (sym (asked_6 k) ∙ not-false _ c.before.if-not-q6.false-raw));
       holds = λ _. (file y).is;
     }
 
 pub has_incurred-has_incurred-requires : goal.has_incurred-has_incurred-requires
-has_incurred-has_incurred-requires c = few (m c.before) _ (file c).valid
+has_incurred-has_incurred-requires c = few (m c.before.before) _ (file c.before).valid

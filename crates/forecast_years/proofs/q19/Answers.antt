@@ -12,7 +12,7 @@ is_valued : (c : Else-not-is_valuation) → is_valuation c.before.before.args.va
 is_valued c = passed c.if-not-is_valuation.false-raw c.before.is_valuation.ensures
 
 starts : (c : Else-not-is_date) → is_date c.before.before.before.before.args.start ≡ true
-starts c = passed c.if-not-is_date.false-raw c.before.is_date_lem.ensures
+starts c = passed c.if-not-is_date.false-raw c.before.is_date.ensures
 
 ends : (c : Else-not-is_date-2) → is_date c.before.before.before.before.before.before.args.end ≡ true
 ends c = passed c.if-not-is_date-2.false-raw c.before.is_date-2.ensures
@@ -23,7 +23,7 @@ returns-then-not-is_valuation c = rw (refused c.if-not-is_valuation.true-raw c.b
 
 pub returns-then-not-is_date : goal.returns-then-not-is_date
 unfolding q19
-returns-then-not-is_date c = rw (is_valued c.before.before, refused c.if-not-is_date.true-raw c.before.is_date_lem.ensures)
+returns-then-not-is_date c = rw (is_valued c.before.before, refused c.if-not-is_date.true-raw c.before.is_date.ensures)
 
 pub returns-then-not-is_date-2 : goal.returns-then-not-is_date-2
 unfolding q19

@@ -21,7 +21,14 @@ use Rattle.gaps.specs.Gaps as Gaps
 use Rattle.gaps.specs.Gaps.{cell_from, gap_at}
 use Rattle.gaps.specs.GapsLaws.{not_compared, listed_skip}
 use Rattle.gaps.proofs.gaps.Goals as goal
-use Rattle.gaps.proofs.gaps.Goals.{After-row_gaps-arg-in-loop-k-1, At-loop-k, Joined-basis-eq1, Start}
+use Rattle.gaps.proofs.gaps.Lts as lts
+use Rattle.gaps.proofs.gaps.Tie as tie
+use Rattle.gaps.proofs.gaps.Reads as reads
+use Rattle.gaps.proofs.gaps.Goals.{At-loop-k, Joined-basis-eq1, Start}
+
+-- the places, as the steps before a goal know them
+abbrev After-row_gaps-arg-in-loop-k-1 : Type 0
+After-row_gaps-arg-in-loop-k-1 = lts.After-row_gaps-arg2 tie.the-claims reads.Pre reads.Post goal.the-invariant-loop-k goal.the-decreases-loop-k tie.handed_clauses
 
 module _ (a : Start) where
   abbrev n : ℕ
@@ -49,7 +56,7 @@ cell_of_lem : (n k j : ℕ) (t : List ℤ) (basis : ℕ) (b g latest v p : List 
 cell_of_lem n k j t basis b g latest v p h e f q = let z : k + 1 - 1 ≡ k = omega arith in rw (e, f, q, z)
 
 -- the whole sums under basis 1
-whole_is : (c : Joined-basis-eq1) → c.before.args.basis ≡ 1 → c.if-basis-eq1.whole-1 ≡ sums c.before 0
+whole_is : (c : Joined-basis-eq1) → c.before.args.basis ≡ 1 → c.if-basis-eq1.whole ≡ sums c.before 0
 whole_is c b = ⊎_elim (λ w. w.3 ∙ w.2.ensures) (λ w. absurd (w.0.left b)) c.if-basis-eq1.branch
 
 pub loop-k-init : goal.loop-k-init
@@ -74,11 +81,11 @@ module _ (c : After-row_gaps-arg-in-loop-k-1) where
   weights_are : c.before.before.weights.new.0 ≡ year_weights (n s) (triangle_in 0 s.args.set.now) s.args.basis s.args.shares.now s.args.g.now s.args.latest.now (k + 1)
   weights_are =
       c.before.before.weights.ensures
-      ∙ same_weights (n s) (triangle_in 0 s.args.set.now) s.args.basis s.args.g.now s.args.latest.now (k + 1) l.loop-k.s-1 s.args.shares.now l.loop-k.inv.3
+      ∙ same_weights (n s) (triangle_in 0 s.args.set.now) s.args.basis s.args.g.now s.args.latest.now (k + 1) l.loop-k.s s.args.shares.now l.loop-k.invariant.3
 
   -- a row base as it is read
   base_back : to_z w64 (of_z w64 (at s.args.v.now k)) ≡ at s.args.v.now k
-  base_back = to_z-of_z (record { sfits = c.row_gaps-arg-in-loop-k-1.given })
+  base_back = to_z-of_z {w = w64} (record { sfits = c.row_gaps-arg-in-loop-k-1.given })
 
 pub row_gaps-requires : goal.row_gaps-requires
 row_gaps-requires c =
@@ -103,7 +110,7 @@ one_more_delay-requires c =
 
 pub loop-k-preserved : goal.loop-k-preserved
 loop-k-preserved c =
-    let w = c.before.before in
+    let w = c.before.before.before in
     let d = w.before.before.before.before in
     let a = s d in
     let h = inside d in
@@ -113,7 +120,7 @@ loop-k-preserved c =
       w.row_gaps.ensures (gap a) (rw first (l d).loop-k.invariant.1)
           (λ j u. row_of a.args.m (n a) (cells a) (triangle_in 1 a.args.set.now) (k d) j u
           (cell_of_lem (n a) (k d) j (triangle_in 0 a.args.set.now) a.args.basis a.args.shares.now a.args.g.now a.args.latest.now a.args.v.now a.args.p.now h (base_back d) (weights_are d) (l d).loop-k.invariant.2)),
-      c.one_more_delay.ensures ∙ ap (sums a) e,
+      c.before.one_more_delay.ensures ∙ ap (sums a) e,
       λ q. weights_are d ∙ estimated (n a) (triangle_in 0 a.args.set.now) a.args.basis a.args.g.now a.args.latest.now (k d + 1) a.args.shares.now q,
     )
 
@@ -138,13 +145,13 @@ pub weights-requires : goal.weights-requires
 weights-requires c = let l = c.before.before in counted l.before.before.before.requires.1 (l.loop-k.k + 1) (omega arith) (omega arith)
 
 pub overflow_add-k-in-loop-k : goal.overflow_add-k-in-loop-k
-overflow_add-k-in-loop-k c = omega (arith, c.before.before.before.before.before.before.before.requires.1.few)
+overflow_add-k-in-loop-k c = omega (arith, c.before.before.before.before.before.before.before.before.requires.1.few)
 
 pub offset_bounds-v-k : goal.offset_bounds-v-k
-offset_bounds-v-k c = omega (arith, c.before.before.before.before.before.before.before.requires.1.few)
+offset_bounds-v-k c = omega (arith, c.before.before.before.before.before.before.before.before.requires.1.few)
 
 pub bounds-v-k : goal.bounds-v-k
-bounds-v-k c = omega (arith, c.before.before.before.before.before.before.before.requires.1.few)
+bounds-v-k c = omega (arith, c.before.before.before.before.before.before.before.before.requires.1.few)
 
 pub overflow_sub-n : goal.overflow_sub-n
 overflow_sub-n c = omega arith

@@ -22,12 +22,9 @@ use Rattle.cells.specs.CellOf.{cell_of}
 use Rattle.cells.specs.SmallLaws.{cell_small}
 use Rattle.gaps.specs.Gaps.{gap_from}
 use Rattle.gaps.specs.GapsLaws.{not_compared, is_compared, listed_skip, gap_small}
+use Rattle.gaps.proofs.row_gaps.Invariants.{Row}
 use Rattle.gaps.proofs.row_gaps.Goals as goal
 use Rattle.gaps.proofs.row_gaps.Goals.{After-d-1, After-struct_told-in-loop-j-1, In-loop-j, Start}
-
--- f holds the row's gaps
-abbrev Row : List ℤ → ℕ → ℕ → ℕ → ℤ → List ℤ → List ℤ → List ℤ → (ℕ → ℤ) → Type 0
-Row set m n i v u s p f = (j : ℕ) → j < 20 → f (20 * (i - 1) + j) ≡ gap_from m n (cell_of n v s p u i j) (triangle_in 1 set) i j
 
 which : (n m i j : ℕ) → min n (m + 1 - i) ≤ j → (n ≤ j) ⊎ (m < i + j)
 which n m i j h = by-test (leb n j) (λ e. inl (leb-true n j e)) (λ e. let l = leb-false n j e in inr (omega arith))
@@ -116,10 +113,10 @@ module _ (c : After-struct_told-in-loop-j-1) where
   small = cell_small s.requires.1 s.args.v s.requires.2 k (omega (arith, inside here))
 
   rbns_back : word result.rbns ≡ result.rbns
-  rbns_back = to_z-of_z (record { sfits = c.before.struct_told-1.given.0.1 })
+  rbns_back = to_z-of_z {w = w64} (record { sfits = c.before.struct_told-1.given.0.1 })
 
   ibnr_back : word result.ibnr ≡ result.ibnr
-  ibnr_back = to_z-of_z (record { sfits = c.struct_told-in-loop-j-1.given.1.0.1 })
+  ibnr_back = to_z-of_z {w = w64} (record { sfits = c.struct_told-in-loop-j-1.given.1.0.1 })
 
   sum_is : word result.rbns +ℤ word result.ibnr ≡ (one_cell s k).rbns +ℤ (one_cell s k).ibnr
   sum_is = ap₂ (λ (x y : ℤ). x +ℤ y) (rbns_back ∙ ap (λ (x : Cell). x.rbns) made) (ibnr_back ∙ ap (λ (x : Cell). x.ibnr) made)
@@ -140,7 +137,7 @@ module _ (c : After-d-1) where
   paid_is : to_z w64 (of_z w64 (at (set a) (400 + 20 * (i a - 1) + k b))) ≡ cell (triangle_in 1 (set a)) (i a) (k b)
   paid_is =
       let e : 400 + 20 * (i a - 1) + k b ≡ 400 * 1 + (20 * (i a - 1) + k b) = omega arith in
-      to_z-of_z (record { sfits = c.d-1.given }) ∙ ap (at (set a)) e ∙ sym (at_triangle 1 (20 * (i a - 1) + k b) (set a) (omega (arith, inside (here b))))
+      to_z-of_z {w = w64} (record { sfits = c.d-1.given }) ∙ ap (at (set a)) e ∙ sym (at_triangle 1 (20 * (i a - 1) + k b) (set a) (omega (arith, inside (here b))))
 
   gap_is : word b (word b (result b).rbns +ℤ word b (result b).ibnr) -ℤ to_z w64 (of_z w64 (at (set a) (400 + 20 * (i a - 1) + k b))) ≡ gap
   gap_is =
@@ -163,9 +160,9 @@ loop-j-preserved c =
     let l = (here (b c)).before in
     let q : 20 * (i s - 1) + (j + 1) ≡ 20 * (i s - 1) + j + 1 = omega arith in
     let h = inside (here (b c)) in (
-      omega (arith, l.loop-j.inv.0),
+      omega (arith, l.loop-j.invariant.0),
       omega (arith, h),
-      λ f d r. rw q (listed_next 400 (20 * (i s - 1) + j) f (pos 0) (omega (arith, h)) (l.loop-j.inv.2 f d r) (to_z-of_z (rw (gap_is c) (gap_fits c)) ∙ gap_is c ∙ sym ((rw (back s) at r) j (omega (arith, h))))),
+      λ f d r. rw q (listed_next 400 (20 * (i s - 1) + j) f (pos 0) (omega (arith, h)) (l.loop-j.invariant.2 f d r) (to_z-of_z (rw (gap_is c) (gap_fits c)) ∙ gap_is c ∙ sym ((rw (back s) at r) j (omega (arith, h))))),
     )
 
 pub returns : goal.returns

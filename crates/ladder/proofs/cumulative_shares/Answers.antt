@@ -55,15 +55,15 @@ module _ (c : After-next_share-arg-in-loop-j-1) where
 
   above : to_z w64 (of_z w64 (at c.before.before.before.before.loop-j.g c.before.before.before.before.loop-j.j)) ≡ g (suc j)
   above =
-      to_z-of_z (record { sfits = c.before.before.above-1.given })
+      to_z-of_z {w = w64} (record { sfits = c.before.before.above-1.given })
       ∙ ap (λ (l : List ℤ). at l c.before.before.before.before.loop-j.j) inv.1 ∙ from_at 20 start.args.m g _ _ (omega (arith, start.requires.0.few)) (omega arith) inv.0
       ∙ ap g (sym after)
 
   a_read : to_z w64 (of_z w64 (at start.args.a.now j)) ≡ at start.args.a.now j
-  a_read = to_z-of_z (record { sfits = c.before.next_share-arg-1.given })
+  a_read = to_z-of_z {w = w64} (record { sfits = c.before.next_share-arg-1.given })
 
   b_read : to_z w64 (of_z w64 (at start.args.b.now j)) ≡ at start.args.b.now j
-  b_read = to_z-of_z (record { sfits = c.next_share-arg-in-loop-j-1.given })
+  b_read = to_z-of_z {w = w64} (record { sfits = c.next_share-arg-in-loop-j-1.given })
 
 pub next_share-requires : goal.next_share-requires
 next_share-requires c =
@@ -80,16 +80,16 @@ share_is c =
 
 pub returns-in_default : goal.returns-in_default
 returns-in_default c =
-    let n = c.before.before in
+    let n = c.before.before.before in
     let b = n.before in
-    let no = every_no (λ k. bounded (g b k)) (start b).args.m (j b) (omega (arith, (inv b).0)) (outside_is (g b (j b)) (sym (share_is n) ∙ c.in_default.is)) in
+    let no = every_no (λ k. bounded (g b k)) (start b).args.m (j b) (omega (arith, (inv b).0)) (outside_is (g b (j b)) (sym (share_is n) ∙ c.before.enum_told-1.given.1)) in
     record { answer = sym no; listed_all = λ e. absurd (false≢true e) }
 
 pub loop-j-preserved : goal.loop-j-preserved
 loop-j-preserved c =
-    let n = c.before.before.before in
+    let n = c.before.before.before.before in
     let b = n.before in
-    let told = inside_is (g b (j b)) c.before.in-Inside.v (sym (share_is n) ∙ c.before.in-Inside.is) in
+    let told = inside_is (g b (j b)) c.before.before.v-1.given.0.0 (sym (share_is n) ∙ c.before.before.v-1.given.1) in
     let fits : SFits w64 (g b (j b)) = fits_abs (omega (arith, (bounds_abs (g b (j b)) (bounded_so (g b (j b)) told.1)).2)) in (
       omega (arith, (inv b).0),
       from_next 20 (start b).args.m (g b) (j b) (omega (arith, (start b).requires.0.few, (inv b).0)) (omega (arith, (inv b).0))
@@ -139,10 +139,10 @@ pub bounds-b-j : goal.bounds-b-j
 bounds-b-j c = omega (arith, c.before.before.before.before.requires.0.few)
 
 pub offset_bounds-g-j-in-loop-j-2 : goal.offset_bounds-g-j-in-loop-j-2
-offset_bounds-g-j-in-loop-j-2 c = let b = c.before.before.before.before in omega (arith, (start b).requires.0.few, (inv b).0)
+offset_bounds-g-j-in-loop-j-2 c = let b = c.before.before.before.before.before in omega (arith, (start b).requires.0.few, (inv b).0)
 
 pub bounds-g-j-in-loop-j-2 : goal.bounds-g-j-in-loop-j-2
-bounds-g-j-in-loop-j-2 c = let b = c.before.before.before.before in omega (arith, (start b).requires.0.few, (inv b).0)
+bounds-g-j-in-loop-j-2 c = let b = c.before.before.before.before.before in omega (arith, (start b).requires.0.few, (inv b).0)
 
 pub loop-j-smaller : goal.loop-j-smaller
 loop-j-smaller c = omega arith

@@ -17,7 +17,14 @@ use Rattle.arithmetic.specs.Capped.{capped, within_is, over_is}
 use Rattle.rounding.specs.Words.{fits_abs}
 use Rattle.ladder.specs.Ladder.{bounded, share_in}
 use Rattle.ladder.proofs.next_share.Goals as goal
-use Rattle.ladder.proofs.next_share.Goals.{After-mul_div_capped, In-Within-2}
+use Rattle.ladder.proofs.next_share.Lts as lts
+use Rattle.ladder.proofs.next_share.Tie as tie
+use Rattle.ladder.proofs.next_share.Reads as reads
+use Rattle.ladder.proofs.next_share.Goals.{After-mul_div_capped}
+
+-- the places, as the steps before a goal know them
+abbrev In-Within-2 : Type 0
+In-Within-2 = lts.After-v tie.the-claims reads.Pre reads.Post tie.handed_clauses
 
 too_far : (z : ℤ) → 4 * 10 ^ 9 < nat_abs z → bounded z ≡ false
 too_far (pos n) h = above_no (pos (10 ^ 6)) (pos (4 * 10 ^ 9)) (pos n) (omega (arith, ints))
@@ -32,10 +39,10 @@ module _ (c : After-mul_div_capped) where
 
 -- the number that the match takes out is the share
 module _ (c : In-Within-2) where
-  told : (share c.before.before ≡ c.in-Within.v) × (nat_abs (share c.before.before) ≤ 4 * 10 ^ 9)
-  told = within_is (4 * 10 ^ 9) (share c.before.before) c.in-Within.v (sym (answer c.before.before) ∙ c.in-Within.is)
+  told : (share c.before.before ≡ c.v-1.given.0.0) × (nat_abs (share c.before.before) ≤ 4 * 10 ^ 9)
+  told = within_is (4 * 10 ^ 9) (share c.before.before) c.v-1.given.0.0 (sym (answer c.before.before) ∙ c.v-1.given.1)
 
-  read : to_z w64 (of_z w64 c.in-Within.v) ≡ share c.before.before
+  read : to_z w64 (of_z w64 c.v-1.given.0.0) ≡ share c.before.before
   read = rw (← told.0) (to_z-of_z (fits_abs (omega (arith, told.1))))
 
 pub mul_div_capped-requires : goal.mul_div_capped-requires
@@ -44,8 +51,8 @@ mul_div_capped-requires c = rw (to_z-of_z c.ranges.g, to_z-of_z c.ranges.a, to_z
 pub returns-in_default : goal.returns-in_default
 unfolding share_in
 returns-in_default c =
-    let b = c.before.before in
-    rw (too_far (share b) (over_is (4 * 10 ^ 9) (share b) (sym (answer b) ∙ c.in_default.is)))
+    let b = c.before.before.before in
+    rw (too_far (share b) (over_is (4 * 10 ^ 9) (share b) (sym (answer b) ∙ c.before.enum_told-1.given.1)))
 
 pub returns-then-v-lt-LEAST : goal.returns-then-v-lt-LEAST
 unfolding share_in

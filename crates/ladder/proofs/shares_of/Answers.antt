@@ -37,7 +37,7 @@ module _ (c : After-out-in-loop-k-2-1) where
   below = c.before.before.loop-k-test.true
 
   taken : to_z w64 (of_z w64 (at g k)) -ℤ to_z w64 (of_z w64 (at g (k - 1))) ≡ difference g k
-  taken = rw (to_z-of_z (record { sfits = c.before.out-in-loop-k-1.given }), to_z-of_z (record { sfits = c.out-in-loop-k-2-1.given })) (by_suc g k c.before.before.before.loop-k.invariant.0)
+  taken = rw (to_z-of_z {w = w64} (record { sfits = c.before.out-in-loop-k-1.given }), to_z-of_z {w = w64} (record { sfits = c.out-in-loop-k-2-1.given })) (by_suc g k c.before.before.before.loop-k.invariant.0)
 
   difference_fits : SFits w64 (difference g k)
   difference_fits =
@@ -48,7 +48,7 @@ pub loop-k-init : goal.loop-k-init
 unfolding difference
 loop-k-init c =
     let s = c.before in
-    (omega arith, s.requires.some, rw (to_z-of_z (record { sfits = c.out-1.given })) (listed_next 20 0 (difference s.args.g.now) (pos 0) {out = replicate 20 (pos 0)} (omega arith) (listed_none 20 _ (pos 0)) refl))
+    (omega arith, s.requires.some, rw (to_z-of_z {w = w64} (record { sfits = c.out-1.given })) (listed_next 20 0 (difference s.args.g.now) (pos 0) {out = replicate 20 (pos 0)} (omega arith) (listed_none 20 _ (pos 0)) refl))
 
 pub loop-k-preserved : goal.loop-k-preserved
 loop-k-preserved c =

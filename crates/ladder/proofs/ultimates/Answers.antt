@@ -30,10 +30,10 @@ module _ (c : After-mul_div-arg-in-loop-k-1) where
   y = at start.args.g.now (start.args.m - 1 - k)
 
   x_read : to_z w64 (of_z w64 x) ≡ x
-  x_read = to_z-of_z (record { sfits = c.before.mul_div-arg-1.given })
+  x_read = to_z-of_z {w = w64} (record { sfits = c.before.mul_div-arg-1.given })
 
   y_read : to_z w64 (of_z w64 y) ≡ y
-  y_read = to_z-of_z (record { sfits = c.mul_div-arg-in-loop-k-1.given })
+  y_read = to_z-of_z {w = w64} (record { sfits = c.mul_div-arg-in-loop-k-1.given })
 
   y_bounds : (pos 0 ⋖ y) × (10 ^ 6 ≤ nat_abs y) × (nat_abs y ≤ 4 * 10 ^ 9)
   y_bounds = bounds_abs y (start.requires.bounds.shares (start.args.m - 1 - k) (omega arith))
@@ -50,7 +50,7 @@ loop-k-preserved c =
     let s = start b in
     let e : s.args.m - 1 - k b ≡ s.args.m - suc (k b) = omega arith in
     let q = rw (x_read b, y_read b, e) at c.mul_div.ensures in
-    (omega arith, listed_next 20 (k b) _ (pos 0) (omega (arith, s.requires.bounds.few)) b.before.before.before.loop-k.invariant.1 (to_z-of_z (record { sfits = c.mul_div.type_inv }) ∙ q))
+    (omega arith, listed_next 20 (k b) _ (pos 0) (omega (arith, s.requires.bounds.few)) b.before.before.before.loop-k.invariant.1 (to_z-of_z {w = w64} (record { sfits = c.mul_div.type_inv }) ∙ q))
 
 pub returns : goal.returns
 returns c = let e : c.before.loop-k.k ≡ c.before.before.args.m = omega arith in rw e at c.before.loop-k.invariant.1

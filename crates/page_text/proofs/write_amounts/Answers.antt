@@ -73,10 +73,10 @@ put-requires c =
 pub returns : goal.returns
 unfolding amounts
 returns c =
-    let w = c.before.before.before.before.before.before in
+    let w = c.before.before.before.before.before.before.before in
     let v = w.before.before.before.before in
     let u = v.before.before.before.before in
-    written_then (written_then (written_then (one u) (two v)) (three w)) c.before.before.put.ensures
+    written_then (written_then (written_then (one u) (two v)) (three w)) c.before.before.before.put.ensures
 
 pub overflow_add-both : goal.overflow_add-both
-overflow_add-both c = rw (to_z-of_z c.before.ranges.rbns, to_z-of_z c.before.ranges.ibnr) (both_fits c.before)
+overflow_add-both c = rw (to_z-of_z c.before.before.ranges.rbns, to_z-of_z c.before.before.ranges.ibnr) (both_fits c.before.before)

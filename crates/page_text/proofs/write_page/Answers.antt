@@ -1,5 +1,6 @@
 -- `page_text::write_page` meets its contract: the heading, the lines of the years, ALL and the
 -- totals. Assumes nothing.
+use mir.Syntax.{w64}
 use mathlib.Core.Path.{◌≡◌}
 use Prim.Native.Nat.{◌+◌, ◌-◌, ◌*◌}
 use native.Mathlib.Omega.{arith}
@@ -39,12 +40,12 @@ years_end y =
 
 pub spaced_sum-x-requires : goal.spaced_sum-x-requires
 spaced_sum-x-requires c =
-    let s = start c.before.before.before.before.before.before.before in
+    let s = start c.before.before.before.before.before.before.before.before in
     total_spaced _ _ (omega arith) s.requires.printable.first_total
 
 pub spaced_sum-y-requires : goal.spaced_sum-y-requires
 spaced_sum-y-requires c =
-    let s = start c.before.before.before.before.before.before.before.before.before in
+    let s = start c.before.before.before.before.before.before.before.before.before.before in
     total_spaced _ _ (omega arith) s.requires.printable.second_total
 
 pub write_bytes-next-requires : goal.write_bytes-next-requires
@@ -57,12 +58,12 @@ write_amounts-requires c =
     let x = z.before.before in
     let y = x.before.before.before.before in
     let s = start y.before.before.before.before in
-    rw (to_z-of_z (sfits_of x.spaced_sum-x.type_inv), to_z-of_z (sfits_of z.spaced_sum-y.type_inv), x.spaced_sum-x.ensures, z.spaced_sum-y.ensures, total_is _ s.args.rbns.now, total_is _ s.args.ibnr.now)
+    rw (to_z-of_z {w = w64} (sfits_of x.spaced_sum-x.type_inv), to_z-of_z {w = w64} (sfits_of z.spaced_sum-y.type_inv), x.spaced_sum-x.ensures, z.spaced_sum-y.ensures, total_is _ s.args.rbns.now, total_is _ s.args.ibnr.now)
     record { ibnr_value = s.requires.printable.total; at_in_bounds = omega (arith, years_end y, b.write_bytes-next.ensures.end) }
 
 pub returns : goal.returns
 returns c =
-    let w = c.before.before in
+    let w = c.before.before.before in
     let b = w.before.before.before.before in
     let z = b.before.before.before in
     let x = z.before.before in
@@ -73,6 +74,6 @@ returns c =
     (written_then (first a)
     (written_then y.write_years-end.ensures
     (written_then b.write_bytes-next.ensures
-    (rw (to_z-of_z (sfits_of x.spaced_sum-x.type_inv), to_z-of_z (sfits_of z.spaced_sum-y.type_inv), x.spaced_sum-x.ensures, z.spaced_sum-y.ensures, total_is _ s.args.rbns.now, total_is _ s.args.ibnr.now)
+    (rw (to_z-of_z {w = w64} (sfits_of x.spaced_sum-x.type_inv), to_z-of_z {w = w64} (sfits_of z.spaced_sum-y.type_inv), x.spaced_sum-x.ensures, z.spaced_sum-y.ensures, total_is _ s.args.rbns.now, total_is _ s.args.ibnr.now)
     at w.write_amounts.ensures)))
     ).bytes

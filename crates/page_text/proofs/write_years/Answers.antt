@@ -24,7 +24,7 @@ abbrev tally : Start → Tally
 tally s = tally_in s.args.rbns.now s.args.ibnr.now
 
 pub loop-k-init : goal.loop-k-init
-loop-k-init c = (omega arith, omega arith, rw (lines_none page_line (tally c.before)) (written_none c.before.args.out.now c.before.args.start (omega arith)))
+loop-k-init c = (omega arith, omega arith, rw (lines_none page_line (tally c.before.before)) (written_none c.before.before.args.out.now c.before.before.args.start (omega arith)))
 
 -- the year that is written
 year_is_lem : (i : In-loop-k) → amount (to_z w64 (i.before.loop-k.k + 1)) ≡ digits (i.before.loop-k.k + 1)
@@ -42,7 +42,7 @@ write_aligned-next-requires c =
 -- what is written of the year, and where it ends
 year : (w : After-write_aligned-next)
     → (let i = w.before.before.before.before in
-    Written i.before.loop-k.out-1 i.before.loop-k.end (aligned 4 (digits (i.before.loop-k.k + 1))) w.write_aligned-next.new.0 w.write_aligned-next.result)
+    Written i.before.loop-k.out i.before.loop-k.end (aligned 4 (digits (i.before.loop-k.k + 1))) w.write_aligned-next.new.0 w.write_aligned-next.result)
 year w = rw (year_is_lem w.before.before.before.before) at w.write_aligned-next.ensures
 
 year_end : (w : After-write_aligned-next) → w.write_aligned-next.result ≡ w.before.before.before.before.before.loop-k.end + 4
@@ -65,14 +65,14 @@ pub write_amounts-end-requires : goal.write_amounts-end-requires
 write_amounts-end-requires c =
     let w = c.before.before.before in
     let l = w.before.before.before.before.before in
-    rw (to_z-of_z (sfits_of w.before.before.before.x-1.given), to_z-of_z (sfits_of w.before.before.y-1.given))
+    rw (to_z-of_z {w = w64} (sfits_of w.before.before.before.x-1.given), to_z-of_z {w = w64} (sfits_of w.before.before.y-1.given))
     record { ibnr_value = (fit w).both; at_in_bounds = omega (arith, year_end w, written_length (year w), written_length l.loop-k.invariant.2) }
 
 pub loop-k-preserved : goal.loop-k-preserved
 loop-k-preserved c =
-    let w = c.before.before.before.before.before.before in
+    let w = c.before.before.before.before.before.before.before in
     let l = w.before.before.before.before.before in
-    let a = rw (to_z-of_z (sfits_of w.before.before.before.x-1.given), to_z-of_z (sfits_of w.before.before.y-1.given)) at c.before.before.write_amounts-end.ensures in (
+    let a = rw (to_z-of_z {w = w64} (sfits_of w.before.before.before.x-1.given), to_z-of_z {w = w64} (sfits_of w.before.before.y-1.given)) at c.before.before.before.write_amounts-end.ensures in (
       omega arith,
       omega (arith, year_end w, a.end, amounts_length (fit w)),
       rw (page_next (tally l.before.before) l.loop-k.k) (written_then l.loop-k.invariant.2 (written_then (year w) a)),

@@ -1,4 +1,5 @@
 -- `probes::probe_cell` meets its contract. Assumes nothing.
+use mir.Syntax.{w64}
 use mathlib.Core.Path.{◌≡◌, ◌∙◌}
 use mathlib.Core.Bool.{true}
 use Prim.Native.Nat.{◌*◌, ◌^◌}
@@ -35,4 +36,4 @@ unfolding cell
 returns c =
     let s = c.before.before.before.before.before in
     rw (v_in c.before.before.before, x_in c.before)
-    (to_z-of_z (record { sfits = c.scale_cell.type_inv }) ∙ rw (to_z-of_z s.ranges.v, to_z-of_z s.ranges.x) at c.scale_cell.ensures)
+    (to_z-of_z {w = w64} (record { sfits = c.scale_cell.type_inv }) ∙ rw (to_z-of_z s.ranges.v, to_z-of_z s.ranges.x) at c.scale_cell.ensures)

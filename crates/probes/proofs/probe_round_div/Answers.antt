@@ -1,4 +1,5 @@
 -- `probes::probe_round_div` meets its contract. Assumes nothing.
+use mir.Syntax.{w64}
 use mathlib.Core.Path.{◌≡◌, ◌∙◌}
 use mathlib.Core.Bool.{true}
 use Prim.Native.Nat.{◌*◌, ◌^◌}
@@ -39,4 +40,4 @@ unfolding round_div
 returns c =
     let s = c.before.before.before.before.before in
     rw (a_in c.before.before.before, b_in c.before)
-    (to_z-of_z (record { sfits = c.round_div.type_inv }) ∙ rw (to_z-of_z s.ranges.a, to_z-of_z s.ranges.b) at c.round_div.ensures)
+    (to_z-of_z {w = w64} (record { sfits = c.round_div.type_inv }) ∙ rw (to_z-of_z s.ranges.a, to_z-of_z s.ranges.b) at c.round_div.ensures)

@@ -1,4 +1,5 @@
 -- `probes::probe_row_base` meets its contract. Assumes nothing.
+use mir.Syntax.{w64}
 use mathlib.Core.Path.{◌≡◌, ap, ◌∙◌}
 use mathlib.Core.Bool.{true}
 use Prim.Native.Nat.{◌*◌, ◌^◌}
@@ -67,5 +68,5 @@ returns c =
     let o = l.before in
     let s = o.before.before.before.before.before.before in
     rw (u_in o.before.before.before.before, w_in o.before.before, d_in o, cap_in l)
-    (to_z-of_z (record { sfits = c.as_number.type_inv }) ∙ c.as_number.ensures
+    (to_z-of_z {w = w64} (record { sfits = c.as_number.type_inv }) ∙ c.as_number.ensures
     ∙ ap as_number (rw (to_z-of_z s.ranges.u, to_z-of_z s.ranges.w, to_z-of_z s.ranges.d) at c.before.mul_div_capped.ensures))

@@ -1,4 +1,5 @@
 -- `probes::probe_share` meets its contract. Assumes nothing.
+use mir.Syntax.{w64}
 use mathlib.Core.Path.{◌≡◌, ap, ◌∙◌}
 use mathlib.Core.Bool.{true}
 use Prim.Native.Nat.{◌*◌, ◌^◌}
@@ -57,5 +58,5 @@ returns c =
     let o = c.before.before in
     let s = o.before.before.before.before.before.before in
     rw (g_in o.before.before.before.before, a_in o.before.before, b_in o)
-    (to_z-of_z (record { sfits = c.as_number.type_inv }) ∙ c.as_number.ensures
+    (to_z-of_z {w = w64} (record { sfits = c.as_number.type_inv }) ∙ c.as_number.ensures
     ∙ ap as_number (rw (to_z-of_z s.ranges.g, to_z-of_z s.ranges.a, to_z-of_z s.ranges.b) at c.before.mul_div_capped.ensures))

@@ -1,4 +1,5 @@
 -- `probes::probe_ultimate` meets its contract. Assumes nothing.
+use mir.Syntax.{w64}
 use mathlib.Core.Path.{◌≡◌, ◌∙◌}
 use mathlib.Core.Bool.{true}
 use Prim.Native.Nat.{◌*◌, ◌^◌}
@@ -42,4 +43,4 @@ unfolding ultimate S
 returns c =
     let s = c.before.before.before.before.before in
     rw (c_in c.before.before.before, g_in c.before)
-    (to_z-of_z (record { sfits = c.mul_div.type_inv }) ∙ rw (to_z-of_z s.ranges.c, to_z-of_z s.ranges.g) at c.mul_div.ensures)
+    (to_z-of_z {w = w64} (record { sfits = c.mul_div.type_inv }) ∙ rw (to_z-of_z s.ranges.c, to_z-of_z s.ranges.g) at c.mul_div.ensures)

@@ -81,7 +81,7 @@ pub overflow_sub-result : goal.overflow_sub-result
 overflow_sub-result c = (below c).down
 
 pub overflow_cast-result : goal.overflow_cast-result
-overflow_cast-result c = ((below c).not_negative, (below c).ranges)
+overflow_cast-result c = ((below c).not_negative, (below c).fits)
 
 pub overflow_add-result : goal.overflow_add-result
 overflow_add-result c = (below c).more

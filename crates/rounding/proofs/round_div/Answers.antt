@@ -34,9 +34,9 @@ round_quotient-requires c =
 pub returns : goal.returns
 returns c =
     let s = c.before in
-    to_z-of_z (record { sfits = c.round_quotient.type_inv })
+    to_z-of_z {w = w64} (record { sfits = c.round_quotient.type_inv })
     ∙ c.round_quotient.ensures
     ∙ rw (to_z-of_z s.ranges.a, to_z-of_z s.ranges.b, to_z-of_z (quot_fits s), to_z-of_z (rem_fits s)) (ap (λ (z : ℤ). r z s.args.b) (parts s).whole)
 
 pub nonzero_rem-a : goal.nonzero_rem-a
-nonzero_rem-a c = div_round_quotient c
+nonzero_rem-a c = nonzero_div-a c

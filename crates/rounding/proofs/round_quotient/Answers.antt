@@ -48,13 +48,13 @@ module _ (c : Start) where
 back_is : (c : After-step) → to_z w64 (of_z w64 c.step.result) ≡ back c.before.before
 back_is c =
     let s = c.before.before in
-    to_z-of_z (record { sfits = c.step.type_inv })
+    to_z-of_z {w = w64} (record { sfits = c.step.type_inv })
     ∙ rw (to_z-of_z s.ranges.q, to_z-of_z s.ranges.d, to_z-of_z s.ranges.rem, to_z-of_z (neg_fits s), to_z-of_z (sum_fits s)) at c.step.ensures
 
 on_is : (c : After-step-else-rem-lt0) → to_z w64 (of_z w64 c.step-else-rem-lt0.result) ≡ on c.before.before
 on_is c =
     let s = c.before.before in
-    to_z-of_z (record { sfits = c.step-else-rem-lt0.type_inv })
+    to_z-of_z {w = w64} (record { sfits = c.step-else-rem-lt0.type_inv })
     ∙ rw (to_z-of_z s.ranges.q, to_z-of_z s.ranges.d, to_z-of_z s.ranges.rem, to_z-of_z (less_fits s)) at c.step-else-rem-lt0.ensures
 
 pub returns-then-rem-lt0 : goal.returns-then-rem-lt0

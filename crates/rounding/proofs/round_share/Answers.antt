@@ -93,7 +93,7 @@ module _ (c : Start) where
 pub returns : goal.returns
 returns c =
     let s = c.before in
-    to_z-of_z (record { sfits = c.round_quotient.type_inv })
+    to_z-of_z {w = w64} (record { sfits = c.round_quotient.type_inv })
     ∙ rw (
       to_z-of_z s.ranges.whole,
       to_z-of_z s.ranges.part,

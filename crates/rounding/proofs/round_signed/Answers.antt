@@ -39,7 +39,7 @@ module _ (c : Start) where
 k_is : (c : After-round_quotient) → to_z w64 (of_z w64 c.round_quotient.result) ≡ rounded c.before
 k_is c =
     let s = c.before in
-    to_z-of_z (record { sfits = c.round_quotient.type_inv })
+    to_z-of_z {w = w64} (record { sfits = c.round_quotient.type_inv })
     ∙ (rw (to_z-of_z s.ranges.d, q_back s, rem_back s) at c.round_quotient.ensures)
     ∙ ap (λ (z : ℤ). r z s.args.d) (made s.args.q s.args.rem s.args.d s.requires.0)
 
@@ -51,7 +51,7 @@ round_quotient-requires c =
 pub returns : goal.returns
 returns c =
     let s = c.before.before in
-    to_z-of_z (record { sfits = c.with_sign.type_inv }) ∙ c.with_sign.ensures ∙ ap (turned s.args.negative) (k_is c.before)
+    to_z-of_z {w = w64} (record { sfits = c.with_sign.type_inv }) ∙ c.with_sign.ensures ∙ ap (turned s.args.negative) (k_is c.before)
     ∙ sym (r_turned s.args.negative _ s.args.d s.requires.0)
 
 pub with_sign-requires : goal.with_sign-requires

@@ -13,7 +13,20 @@ use Rattle.ladder.specs.LadderLaws.{ladder_ready, ladder_ultimates}
 use Rattle.row_bases.specs.Bases.{AllSizes}
 use Rattle.row_bases.specs.MethodLaws.{all_sizes, left_overs, answer_13, answer_14, answer_yes, row_bases_are}
 use Rattle.row_bases.proofs.method_bases.Goals as goal
-use Rattle.row_bases.proofs.method_bases.Goals.{After-incurred_under, After-ultimates-u, Else-not-incurred_under, Start}
+use Rattle.row_bases.proofs.method_bases.Lts as lts
+use Rattle.row_bases.proofs.method_bases.Tie as tie
+use Rattle.row_bases.proofs.method_bases.Reads as reads
+use Rattle.row_bases.proofs.method_bases.Goals.{Start}
+
+-- the places, as the steps before a goal know them
+abbrev After-incurred_under : Type 0
+After-incurred_under = lts.After-incurred_under tie.the-claims reads.Pre reads.Post tie.handed_clauses
+
+abbrev After-ultimates-u : Type 0
+After-ultimates-u = lts.After-ultimates tie.the-claims reads.Pre reads.Post tie.handed_clauses
+
+abbrev Else-not-incurred_under : Type 0
+Else-not-incurred_under = lts.Else1 tie.the-claims reads.Pre reads.Post tie.handed_clauses
 
 module _ (c : After-incurred_under) where
   abbrev start : Start
@@ -83,7 +96,7 @@ pub incurred_under-requires : goal.incurred_under-requires
 incurred_under-requires c = let p = c.before.requires.asked in ((let l = p.shared.counts.least in omega arith), p.incurred, refl)
 
 pub ultimates-u-requires : goal.ultimates-u-requires
-ultimates-u-requires c = let p = (start (one c)).requires in ladder_ready p.1.0 (paid_ready p.0.shared)
+ultimates-u-requires c = let p = (start (one c.before)).requires in ladder_ready p.1.0 (paid_ready p.0.shared)
 
 pub row_bases-requires : goal.row_bases-requires
 row_bases-requires c = let t = c.before.before.before in let l = (start (base t)).requires.asked.shared.counts.least in (omega arith, few (base t), sized t, (start (base t)).requires.ladder.1)

@@ -86,7 +86,7 @@ returns-then-s-eq-HALF_SCALE c =
     let s = d.before.before.before.before in
     let number : d.divide_by_square-s.result.q * square + (d.divide_by_square-s.result.rem * base + l.lowest_digit.result) ≡ n s = omega (arith, whole d, lowest_is l) in
     let e = rw (to_z-of_z s.ranges.v, to_z-of_z s.ranges.x, number, sym square_is) at c.round_signed.ensures in
-    to_z-of_z (record { sfits = c.round_signed.type_inv }) ∙ e ∙ ap (λ (z : ℤ). r z (S *ℤ S)) (signed-* s.args.v s.args.x)
+    to_z-of_z {w = w64} (record { sfits = c.round_signed.type_inv }) ∙ e ∙ ap (λ (z : ℤ). r z (S *ℤ S)) (signed-* s.args.v s.args.x)
 
 pub returns : goal.returns
 returns c =
@@ -96,7 +96,7 @@ returns c =
     let t = not (beq (lt_z s.args.v (pos 0)) (lt_z s.args.x (pos 0))) in
     let e = rw (to_z-of_z s.ranges.v, to_z-of_z s.ranges.x, k_back k) at c.with_sign.ensures in
     let near = nearer (n s) d.divide_by_square-s.result.q d.divide_by_square-s.result.rem k.reached.result (whole d) d.divide_by_square-s.ensures.1 k.before.if-s-eq-HALF_SCALE.false (k.reached.ensures.1, k.reached.ensures.2) in
-    to_z-of_z (record { sfits = c.with_sign.type_inv }) ∙ e ∙ ap (turned t) (sym near) ∙ sym (r_turned t (pos (n s)) (S *ℤ S) square_pos)
+    to_z-of_z {w = w64} (record { sfits = c.with_sign.type_inv }) ∙ e ∙ ap (turned t) (sym near) ∙ sym (r_turned t (pos (n s)) (S *ℤ S) square_pos)
     ∙ ap (λ (z : ℤ). r z (S *ℤ S)) (signed-* s.args.v s.args.x)
 
 pub divide_by_square-s-requires : goal.divide_by_square-s-requires

@@ -9,7 +9,16 @@ use Rattle.model.specs.Tests.{refused, passed}
 use Rattle.set_file.specs.RoundTrip.{length_file}
 use Rattle.set_file.proofs.Writing.{no_1, no_3, no_5, no_7, yes}
 use Rattle.set_file.proofs.write_lent.Goals as goal
-use Rattle.set_file.proofs.write_lent.Goals.{Else-not-q1, Else-not-set_ok}
+use Rattle.set_file.proofs.write_lent.Lts as lts
+use Rattle.set_file.proofs.write_lent.Tie as tie
+use Rattle.set_file.proofs.write_lent.Reads as reads
+
+-- the places, as the steps before a goal know them
+abbrev Else-not-q1 : Type 0
+Else-not-q1 = lts.Else1 tie.the-claims reads.Pre reads.Post tie.handed_clauses
+
+abbrev Else-not-set_ok : Type 0
+Else-not-set_ok = lts.Else3 tie.the-claims reads.Pre reads.Post tie.handed_clauses
 
 -- question 1 had a yes
 size : (c : Else-not-q1) → q1 c.before.before.before.args.m ≡ true
@@ -20,27 +29,27 @@ ranges : (c : Else-not-set_ok) → let s = c.before.before.before.before.before.
 ranges c = passed c.if-not-set_ok.false-raw c.before.set_ok.ensures
 
 pub returns-then-not-q1 : goal.returns-then-not-q1
-returns-then-not-q1 c = no_1 _ _ _ _ _ _ _ (refused c.if-not-q1.true-raw c.before.q1.ensures)
+returns-then-not-q1 c = no_1 _ _ _ _ _ _ _ (refused c.before.if-not-q1.true-raw c.before.before.q1.ensures)
 
 pub returns-then-line-gt5 : goal.returns-then-line-gt5
-returns-then-line-gt5 c = no_3 _ _ _ _ _ _ _ (size c.before) c.if-line-gt5.true
+returns-then-line-gt5 c = no_3 _ _ _ _ _ _ _ (size c.before.before) c.before.if-line-gt5.true
 
 pub returns-then-not-set_ok : goal.returns-then-not-set_ok
 returns-then-not-set_ok c =
-    let d = c.before.before in
-    no_5 _ _ _ _ _ _ _ (size d.before) d.if-line-gt5.false (refused c.if-not-set_ok.true-raw c.before.set_ok.ensures)
+    let d = c.before.before.before in
+    no_5 _ _ _ _ _ _ _ (size d.before) d.if-line-gt5.false (refused c.before.if-not-set_ok.true-raw c.before.before.set_ok.ensures)
 
 pub overflow_mul-set_records : goal.overflow_mul-set_records
 overflow_mul-set_records c =
-    let d = c.before in
+    let d = c.before.before in
     let e = d.before.before in
-    omega (arith, set_most _ e.before.before.before.before.args.has-incurred (size_so _ (size e.before)).1, c.set_records.ensures)
+    omega (arith, set_most _ e.before.before.before.before.args.has-incurred (size_so _ (size e.before)).1, c.before.set_records.ensures)
 
 pub returns-then-out-set_records : goal.returns-then-out-set_records
 returns-then-out-set_records c =
-    let d = c.before.before in
+    let d = c.before.before.before in
     let e = d.before.before in
-    no_7 _ _ _ _ _ _ _ (size e.before) e.if-line-gt5.false (ranges d) (omega (arith, c.if-out-set_records.true, c.before.set_records.ensures))
+    no_7 _ _ _ _ _ _ _ (size e.before) e.if-line-gt5.false (ranges d) (omega (arith, c.before.if-out-set_records.true, c.before.before.set_records.ensures))
 
 pub put_set-requires : goal.put_set-requires
 put_set-requires c =
@@ -52,14 +61,14 @@ put_set-requires c =
 
 pub returns : goal.returns
 returns c =
-    let g = c.before.before in
+    let g = c.before.before.before in
     let f = g.before.before in
     let d = f.before.before in
     let e = d.before.before in
     yes _ _ _ _ _ _ _ (size e.before) e.if-line-gt5.false (ranges d) _ (omega (arith, f.if-out-set_records.false, f.before.set_records.ensures)) g.put_set.ensures
 
 pub set_ok-requires : goal.set_ok-requires
-set_ok-requires c = (size_so _ (size c.before)).1
+set_ok-requires c = (size_so _ (size c.before.before)).1
 
 pub set_records-requires : goal.set_records-requires
-set_records-requires c = (size_so _ (size c.before.before.before)).1
+set_records-requires c = (size_so _ (size c.before.before.before.before)).1

@@ -17,7 +17,17 @@ use Rattle.delays.specs.PreparedLaws.{shares_so}
 use Rattle.set_forecast.specs.SetForecast.{Answered, of_either, either_delays}
 use Rattle.set_forecast.specs.SetForecastLaws.{by_either, after_either, either_range, either_solve, either_output, lent_passed, lent_delays, lent_shared, is_given, near}
 use Rattle.set_forecast.proofs.forecast_either.Goals as goal
-use Rattle.set_forecast.proofs.forecast_either.Goals.{After-forecast_prepared, After-prepare_from-refusal, Else-refusal-ne0, Start}
+use Rattle.set_forecast.proofs.forecast_either.Lts as lts
+use Rattle.set_forecast.proofs.forecast_either.Tie as tie
+use Rattle.set_forecast.proofs.forecast_either.Reads as reads
+use Rattle.set_forecast.proofs.forecast_either.Goals.{After-forecast_prepared, Start}
+
+-- the places, as the steps before a goal know them
+abbrev After-prepare_from-refusal : Type 0
+After-prepare_from-refusal = lts.After-prepare_from tie.the-claims reads.Pre reads.Post tie.handed_clauses
+
+abbrev Else-refusal-ne0 : Type 0
+Else-refusal-ne0 = lts.Else1 tie.the-claims reads.Pre reads.Post tie.handed_clauses
 
 module _ (c : After-prepare_from-refusal) where
   abbrev start : Start
@@ -60,7 +70,7 @@ module _ (e : Else-refusal-ne0) where
   paid = triangle_in 1 (start one).args.set.now
 
   shared : Shared (m one) counts paid
-  shared = lent_shared one.prepare_from-refusal.ensures e.if-refusal-ne0.left (start one).requires.0 (shares_so (m one) counts paid (given one) (lent one))
+  shared = lent_shared one.prepare_from-refusal.ensures e.if-refusal-ne0.false (start one).requires.0 (shares_so (m one) counts paid (given one) (lent one))
 
 -- what is prepared is given to the forecast
 module _ (c : After-forecast_prepared) where
@@ -74,7 +84,7 @@ module _ (c : After-forecast_prepared) where
   answered like =
       let a = c.forecast_prepared.ensures like in
       let by = two.prepare_from-refusal.ensures in
-      let z = else1.if-refusal-ne0.left in
+      let z = else1.if-refusal-ne0.false in
       let before = (start two).args.out.now in
       record {
         refusal = a.refusal ∙ sym (after_either (m two) (s two like) (start two).args.method (given two) (lent two) (lent_passed by z));
@@ -91,7 +101,7 @@ returns c =
     let w = c.before in
     let b = two w in
     let e = else1 w in
-    record { fact = answered w; near_reserves = near (shared e) (answered w no_set) (λ _. either_solve (m b) (s b no_set) (shared e) (given b) (lent b) (lent_passed b.prepare_from-refusal.ensures e.if-refusal-ne0.left)) }
+    record { fact = answered w; near_reserves = near (shared e) (answered w no_set) (λ _. either_solve (m b) (s b no_set) (shared e) (given b) (lent b) (lent_passed b.prepare_from-refusal.ensures e.if-refusal-ne0.false)) }
 
 pub forecast_prepared-requires : goal.forecast_prepared-requires
 forecast_prepared-requires c =

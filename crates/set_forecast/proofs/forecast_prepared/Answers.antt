@@ -9,7 +9,14 @@ use Rattle.ladder.specs.LadderLaws.{ladder_ready}
 use Rattle.set_forecast.specs.SetForecast.{method_refusal}
 use Rattle.set_forecast.specs.SetForecastLaws.{years_ready, years_written}
 use Rattle.set_forecast.proofs.forecast_prepared.Goals as goal
-use Rattle.set_forecast.proofs.forecast_prepared.Goals.{After-method_bases-refusal, Start}
+use Rattle.set_forecast.proofs.forecast_prepared.Lts as lts
+use Rattle.set_forecast.proofs.forecast_prepared.Tie as tie
+use Rattle.set_forecast.proofs.forecast_prepared.Reads as reads
+use Rattle.set_forecast.proofs.forecast_prepared.Goals.{Start}
+
+-- the places, as the steps before a goal know them
+abbrev After-method_bases-refusal : Type 0
+After-method_bases-refusal = lts.After-method_bases tie.the-claims reads.Pre reads.Post tie.handed_clauses
 
 abbrev start : After-method_bases-refusal → Start
 start c = c.before.before.before
@@ -46,4 +53,4 @@ pub method_bases-refusal-requires : goal.method_bases-refusal-requires
 method_bases-refusal-requires c = let g = c.before.before.requires.0 in record { asked = g.asked; ladder = (g.paid, refl) }
 
 pub shares_of-shares-requires : goal.shares_of-shares-requires
-shares_of-shares-requires c = let g = (start c.before).requires.0 in (ladder_ready g.counts (counts_ready g.asked.shared)).bounds
+shares_of-shares-requires c = let g = (start c.before.before).requires.0 in (ladder_ready g.counts (counts_ready g.asked.shared)).bounds

@@ -68,20 +68,20 @@ module _ (x : After-y-1) where
   l = x.before.before.loop-l.l
 
   inside : l < m
-  inside = x.before.loop-l-test.taken
+  inside = x.before.loop-l-test.true
 
   few : m ≤ 20
   few = start.requires.few
 
   x_is : to_z w64 (of_z w64 (at lent l)) ≡ at lent l
-  x_is = to_z-of_z (record { sfits = x.y-1.given })
+  x_is = to_z-of_z {w = w64} (record { sfits = x.y-1.given })
 
 module _ (t : After-in_range) where
   abbrev one : After-y-1
   one = t.before
 
-  asked : t.in_range_lem.result ≡ held (at (lent one) (l one))
-  asked = t.in_range_lem.ensures ∙ ap held (x_is one)
+  asked : t.in_range.result ≡ held (at (lent one) (l one))
+  asked = t.in_range.ensures ∙ ap held (x_is one)
 
 -- it is in range, and stands in the list
 module _ (e : Else-not-in_range) where
@@ -89,13 +89,13 @@ module _ (e : Else-not-in_range) where
   two = e.before.before
 
   abbrev p : List ℤ
-  p = set two.before.before.loop-l.p-1 (l two) (to_z w64 (of_z w64 (at (lent two) (l two))))
+  p = set two.before.before.loop-l.p (l two) (to_z w64 (of_z w64 (at (lent two) (l two))))
 
   placed_next : p ≡ listed 20 (l two + 1) (at (lent two)) (pos 0)
-  placed_next = listed_next 20 (l two) (at (lent two)) (pos 0) (omega (arith, inside two, few two)) two.before.before.loop-l.inv.1 (x_is two)
+  placed_next = listed_next 20 (l two) (at (lent two)) (pos 0) (omega (arith, inside two, few two)) two.before.before.loop-l.invariant.1 (x_is two)
 
   ranges : every (l two + 1) (λ k. held (at (lent two) k)) ≡ true
-  ranges = every_more _ (l two) two.before.before.loop-l.inv.2 (sym (asked e.before) ∙ not-false _ e.if-not-in_range.left)
+  ranges = every_more _ (l two) two.before.before.loop-l.invariant.2 (sym (asked e.before) ∙ not-false _ e.if-not-in_range.false-raw)
 
   here : (k : ℕ) → k ≤ l two → at p k ≡ at (lent two) k
   here k h =
@@ -143,7 +143,7 @@ pub loop-l-preserved : goal.loop-l-preserved
 loop-l-preserved c =
     let y = c.before in
     let x = three y in
-    (omega (arith, inside x), placed_next (else2 y), ranges (else2 y), every_more _ (l x) x.before.before.loop-l.inv.3 (sym (line y) ∙ not-false _ c.if-not-solves_at.false-raw))
+    (omega (arith, inside x), placed_next (else2 y), ranges (else2 y), every_more _ (l x) x.before.before.loop-l.invariant.3 (sym (line y) ∙ not-false _ c.if-not-solves_at.false-raw))
 
 pub returns : goal.returns
 unfolding checked_of

@@ -19,10 +19,10 @@ module _ (c : After-round_div-arg-1) where
   start = c.before.before
 
   numerator : to_z w64 (of_z w64 c.before.residual.result) ≡ c.before.residual.result
-  numerator = to_z-of_z (record { sfits = c.before.residual.type_inv })
+  numerator = to_z-of_z {w = w64} (record { sfits = c.before.residual.type_inv })
 
   divisor : to_z w64 (of_z w64 (at start.args.b.now 0)) ≡ at start.args.b.now 0
-  divisor = to_z-of_z (record { sfits = c.round_div-arg-1.given })
+  divisor = to_z-of_z {w = w64} (record { sfits = c.round_div-arg-1.given })
 
 pub round_div-requires : goal.round_div-requires
 round_div-requires c = let d = (start c).requires.divisor in rw (divisor c, numerator c) (d.0, omega arith, c.before.residual.ensures.1)
@@ -33,7 +33,7 @@ returns c =
     let r = c.before in
     let a = (start r).args in
     let e = numerator r ∙ r.before.residual.ensures.0 ∙ ap (λ (x : ℤ). S *ℤ at a.q.now a.l -ℤ x) (from_one a.b.now a.p.now a.l) in
-    to_z-of_z (record { sfits = c.round_div.type_inv }) ∙ c.round_div.ensures ∙ ap₂ Rounding.r e (divisor r)
+    to_z-of_z {w = w64} (record { sfits = c.round_div.type_inv }) ∙ c.round_div.ensures ∙ ap₂ Rounding.r e (divisor r)
 
 pub residual-requires : goal.residual-requires
 residual-requires c = c.requires

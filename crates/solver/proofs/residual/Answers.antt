@@ -24,7 +24,7 @@ module _ (c : After-result-1) where
   scaled = pos 1000000000 *ℤ at start.args.q.now start.args.l
 
   scaled_is : pos 1000000000 *ℤ to_z w64 (of_z w64 (at start.args.q.now start.args.l)) ≡ scaled
-  scaled_is = rw (to_z-of_z (record { sfits = c.result-1.given }))
+  scaled_is = rw (to_z-of_z {w = w64} (record { sfits = c.result-1.given }))
 
   scaled_small : nat_abs scaled ≤ 10 ^ 18
   scaled_small = omega (arith, nat_abs-*ℤ (pos 1000000000) (at start.args.q.now start.args.l), start.requires.target)
@@ -39,10 +39,10 @@ module _ (c : After-weighed_sum) where
   abbrev sum : ℤ
   sum = let a = (start one).args in weighed_sum a.b.now a.p.now a.first a.l
 
-  read : to_z w64 (of_z w64 (pos 1000000000 *ℤ to_z w64 (of_z w64 (at (start one).args.q.now (start one).args.l)))) -ℤ to_z w64 (of_z w64 c.weighed_sum.result-1) ≡ scaled one -ℤ sum
+  read : to_z w64 (of_z w64 (pos 1000000000 *ℤ to_z w64 (of_z w64 (at (start one).args.q.now (start one).args.l)))) -ℤ to_z w64 (of_z w64 c.weighed_sum.result) ≡ scaled one -ℤ sum
   read =
       ap₂ (λ (x y : ℤ). x -ℤ y) (ap (λ (z : ℤ). to_z w64 (of_z w64 z)) (scaled_is one) ∙ to_z-of_z (scaled_fits one))
-      (to_z-of_z (record { sfits = c.weighed_sum.type_inv }) ∙ c.weighed_sum.ensures)
+      (to_z-of_z {w = w64} (record { sfits = c.weighed_sum.type_inv }) ∙ c.weighed_sum.ensures)
 
   small : nat_abs (scaled one -ℤ sum) ≤ 9 * 10 ^ 18
   small = omega (arith, nat_abs--ℤ (scaled one) sum, scaled_small one, sum_small (start one).requires.weights)

@@ -42,7 +42,7 @@ module _ (c : After-p-1) where
   inside : l < m
   inside = c.before.loop-l-test.true
 
-  past_held : (k : ℕ) → k < l → nat_abs (at c.before.before.loop-l.p-1 k) ≤ 8 * 10 ^ 9
+  past_held : (k : ℕ) → k < l → nat_abs (at c.before.before.loop-l.p k) ≤ 8 * 10 ^ 9
   unfolding delays
   past_held k h =
       let e = ap (λ (x : List ℤ). at x k) c.before.before.loop-l.invariant.1 ∙ sym (delay_kept b q m l k (omega (arith, inside)) h) in
@@ -55,7 +55,7 @@ module _ (c : After-delay-x) where
 
   x_is : to_z w64 (of_z w64 c.delay-x.result) ≡ at (delays (m one) (b one) (q one)) (l one)
   x_is =
-      to_z-of_z (record { sfits = c.delay-x.type_inv }) ∙ c.delay-x.ensures ∙ ap (λ (p : List ℤ). delay_after (b one) (q one) p (l one)) one.before.before.loop-l.inv.1
+      to_z-of_z {w = w64} (record { sfits = c.delay-x.type_inv }) ∙ c.delay-x.ensures ∙ ap (λ (p : List ℤ). delay_after (b one) (q one) p (l one)) one.before.before.loop-l.invariant.1
       ∙ sym (delay_from (b one) (q one) (m one) (l one) (start one).requires.few (inside one))
 
   -- a delay outside its bounds
@@ -68,8 +68,8 @@ unfolding delays_to
 loop-l-init c = (omega arith, refl, every_none _)
 
 -- what is asked of it
-asked : (c : After-in_range) → let o = one c.before in c.in_range_lem.result ≡ held (at (delays (m o) (b o) (q o)) (l o))
-asked c = c.in_range_lem.ensures ∙ ap held (x_is c.before)
+asked : (c : After-in_range) → let o = one c.before in c.in_range.result ≡ held (at (delays (m o) (b o) (q o)) (l o))
+asked c = c.in_range.ensures ∙ ap held (x_is c.before)
 
 pub returns-then-not-in_range : goal.returns-then-not-in_range
 returns-then-not-in_range c =
@@ -83,8 +83,8 @@ loop-l-preserved c =
     let d = t.before in
     let o = one d in (
       omega (arith, inside o),
-      more (b o) (q o) (l o) o.before.before.loop-l.inv.1 (x_is d ∙ delay_from (b o) (q o) (m o) (l o) (start o).requires.few (inside o)),
-      every_more _ (l o) o.before.before.loop-l.inv.2 (sym (asked t) ∙ not-false _ c.if-not-in_range.false-raw),
+      more (b o) (q o) (l o) o.before.before.loop-l.invariant.1 (x_is d ∙ delay_from (b o) (q o) (m o) (l o) (start o).requires.few (inside o)),
+      every_more _ (l o) o.before.before.loop-l.invariant.2 (sym (asked t) ∙ not-false _ c.if-not-in_range.false-raw),
     )
   where
     more : (b q : List ℤ) (l : ℕ) {p : List ℤ} {v : ℤ} → p ≡ delays_to b q l → v ≡ delay_after b q (delays_to b q l) l → set p l v ≡ delays_to b q (l + 1)

@@ -31,7 +31,7 @@ module _ (c : After-residual) where
   start = c.before
 
   read : to_z w64 (of_z w64 c.residual.result) ≡ c.residual.result
-  read = to_z-of_z (record { sfits = c.residual.type_inv })
+  read = to_z-of_z {w = w64} (record { sfits = c.residual.type_inv })
 
   residual_is : to_z w64 (of_z w64 c.residual.result) ≡ S *ℤ at start.args.q.now start.args.l -ℤ sum (suc start.args.l) (λ k. at start.args.b.now k *ℤ at start.args.p.now (start.args.l - k))
   residual_is =
@@ -47,7 +47,7 @@ returns c =
     let d = c.before.before in
     let s = start d.before in
     let b = at s.args.b.now 0 in
-    rw (d.magnitude-distance.ensures, residual_is d.before, c.magnitude.ensures, to_z-of_z (record { sfits = c.before.magnitude-arg-1.given }))
+    rw (d.magnitude-distance.ensures, residual_is d.before, c.magnitude.ensures, to_z-of_z {w = w64} (record { sfits = c.before.magnitude-arg-1.given }))
     (doubled _ b (<ℤ-≤ℤ s.requires.divisor.0))
 
 pub residual-requires : goal.residual-requires

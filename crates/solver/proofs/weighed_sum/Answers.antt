@@ -13,11 +13,9 @@ use Rattle.rounding.specs.Words.{fits_abs}
 use Rattle.rounding.specs.Running.{sum_none, held, sum_more}
 use Rattle.solver.specs.Solved.{Weighed, weighed_sum}
 use Rattle.solver.specs.SolvedLaws.{product_small, part_small}
+use Rattle.solver.proofs.weighed_sum.Invariants.{term}
 use Rattle.solver.proofs.weighed_sum.Goals as goal
 use Rattle.solver.proofs.weighed_sum.Goals.{After-out-in-loop-k-1, Start}
-
-abbrev term : List ℤ → List ℤ → ℕ → ℕ → ℕ → ℤ
-term b p first l k = at b (first + k) *ℤ at p (l - (first + k))
 
 sum_fits : {first l : ℕ} {b p : List ℤ} (i : ℕ) → Weighed first l b p → i ≤ suc l - first → SFits w64 (sum i (term b p first l))
 sum_fits i w h = fits_abs (omega (arith, part_small w i h))
@@ -49,7 +47,7 @@ module _ (c : After-out-in-loop-k-1) where
   inside = c.before.before.loop-k-test.true
 
   factors : to_z w64 (of_z w64 x) *ℤ to_z w64 (of_z w64 y) ≡ x *ℤ y
-  factors = rw (to_z-of_z (record { sfits = c.before.out-1.given }), to_z-of_z (record { sfits = c.out-in-loop-k-1.given }))
+  factors = rw (to_z-of_z {w = w64} (record { sfits = c.before.out-1.given }), to_z-of_z {w = w64} (record { sfits = c.out-in-loop-k-1.given }))
 
   product_fits : SFits w64 (x *ℤ y)
   product_fits = fits_abs (omega (arith, product_small start.requires k begun inside))

@@ -29,7 +29,7 @@ added : (c : After-s-1)
     → (let l = c.before.before in to_z w64 l.loop-k.s-bits +ℤ to_z w64 (of_z w64 (number l.before l.loop-k.k)) ≡ sum (l.loop-k.k + 1) (number l.before))
 added c =
     let l = c.before.before in
-    sum_more l.loop-k.k _ l.loop-k.invariant.1 (part_fits l.before l.loop-k.k (omega arith)) (to_z-of_z (sfits_of c.s-1.given))
+    sum_more l.loop-k.k _ l.loop-k.invariant.1 (part_fits l.before l.loop-k.k (omega arith)) (to_z-of_z {w = w64} (sfits_of c.s-1.given))
 
 pub returns : goal.returns
 returns c =

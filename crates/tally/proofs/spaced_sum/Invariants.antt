@@ -14,7 +14,7 @@ use Rattle.rounding.specs.Running.{sum_none, held, sum_more}
 use Rattle.tally.proofs.spaced_sum.Given as goal
 
 abbrev pub invariant-loop-k : goal.invariant-loop-k
-invariant-loop-k l = (l.k ≤ l.n) × (l.s-bits ≡ of_z w64 (sum l.k (λ i. at l.xs (l.first + l.step * i))))
+invariant-loop-k l = (l.k ≤ l.n) × (l.s ≡ (sum l.k (λ i. at l.xs (l.first + l.step * i))))
 
 abbrev pub decreases-loop-k : goal.decreases-loop-k
 decreases-loop-k l = l.n - l.k

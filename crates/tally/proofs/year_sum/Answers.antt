@@ -1,5 +1,6 @@
 -- `tally::year_sum` meets its contract: the entries stand where the year's cells do.
 -- Assumes nothing.
+use mir.Syntax.{w64}
 use Prim.Native.Nat.{◌+◌, ◌-◌, ◌*◌, ◌≤◌}
 use native.Mathlib.Omega.{arith}
 use borrow.Author.Rules.{rules, sfits_of}
@@ -29,7 +30,7 @@ spaced_sum-requires c =
 pub returns : goal.returns
 returns c =
     let s = c.before.before in
-    rw (to_z-of_z (sfits_of c.spaced_sum.type_inv), ← year_spaced s.args.m s.args.out.now s.args.k s.args.kind (omega arith))
+    rw (to_z-of_z {w = w64} (sfits_of c.spaced_sum.type_inv), ← year_spaced s.args.m s.args.out.now s.args.k s.args.kind (omega arith))
     (rw c.before.first_row-row.ensures at c.spaced_sum.ensures)
 
 pub overflow_mul-delays : goal.overflow_mul-delays

@@ -16,9 +16,9 @@ write_amount-requires c =
 pub returns : goal.returns
 unfolding field
 returns c =
-    let p = c.before.before.before.before.before.before in
+    let p = c.before.before.before.before.before.before.before in
     let s = p.before.before.before in
-    written_then p.put-next.ensures (rw (to_z-of_z s.ranges.value) at c.before.before.write_amount.ensures)
+    written_then p.put-next.ensures (rw (to_z-of_z s.ranges.value) at c.before.before.before.write_amount.ensures)
 
 pub put-next-requires : goal.put-next-requires
 put-next-requires c = omega (arith, field_size c.before.before.args.value)

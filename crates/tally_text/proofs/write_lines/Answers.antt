@@ -1,5 +1,6 @@
 -- `text::tally_text::write_lines` meets its contract. The invariant: the lines of the first k
 -- years are written, and nothing else. Assumes nothing.
+use mir.Syntax.{w64}
 use mathlib.Core.Path.{◌≡◌}
 use Prim.Native.Nat.{◌-◌, ◌≤◌}
 use native.Mathlib.Omega.{arith}
@@ -17,7 +18,7 @@ abbrev tally : Start → Tally
 tally s = tally_in s.args.rbns.now s.args.ibnr.now
 
 pub loop-k-init : goal.loop-k-init
-loop-k-init c = (omega arith, rw (lines_none line (tally c.before)) (written_none c.before.args.out.now 0 (omega arith)))
+loop-k-init c = (omega arith, rw (lines_none line (tally c.before.before)) (written_none c.before.before.args.out.now 0 (omega arith)))
 
 pub write_digits-next-requires : goal.write_digits-next-requires
 write_digits-next-requires c =
@@ -37,8 +38,8 @@ write_sums-end-requires c =
     let i = w.before.before.before.before in
     let l = i.before in
     let s = l.before.before in
-    rw (to_z-of_z (sfits_of w.before.before.before.x-1.given), to_z-of_z (sfits_of w.before.before.y-1.given)) record {
-      ibnr_value = s.requires.by_index.0 l.loop-k.k i.loop-k-test.true;
+    rw (to_z-of_z {w = w64} (sfits_of w.before.before.before.x-1.given), to_z-of_z {w = w64} (sfits_of w.before.before.y-1.given)) record {
+      ibnr_value = s.requires.by_index l.loop-k.k i.loop-k-test.true;
       ibnr_in_bounds = omega (
         arith,
         next_room (tally s) l.loop-k.k s.args.n i.loop-k-test.true,
@@ -51,14 +52,14 @@ write_sums-end-requires c =
 
 pub loop-k-preserved : goal.loop-k-preserved
 loop-k-preserved c =
-    let w = c.before.before.before.before.before.before in
+    let w = c.before.before.before.before.before.before.before in
     let i = w.before.before.before.before in
     let l = i.before in (
       omega arith,
       rw (text_next (tally l.before.before) l.loop-k.k)
           (written_then l.loop-k.invariant.1
           (written_then w.write_digits-next.ensures
-          (rw (to_z-of_z (sfits_of w.before.before.before.x-1.given), to_z-of_z (sfits_of w.before.before.y-1.given)) at c.before.before.write_sums-end.ensures))),
+          (rw (to_z-of_z {w = w64} (sfits_of w.before.before.before.x-1.given), to_z-of_z {w = w64} (sfits_of w.before.before.y-1.given)) at c.before.before.before.write_sums-end.ensures))),
     )
 
 pub returns : goal.returns

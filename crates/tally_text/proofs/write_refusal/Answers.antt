@@ -21,9 +21,9 @@ put-requires c =
 pub returns : goal.returns
 unfolding refusal_text
 returns c =
-    let d = c.before.before.before.before.before.before in
+    let d = c.before.before.before.before.before.before.before in
     let w = d.before.before.before.before in
-    written_whole (written_then (written_then w.write_bytes-next.ensures d.write_digits-end.ensures) c.before.before.put.ensures)
+    written_whole (written_then (written_then w.write_bytes-next.ensures d.write_digits-end.ensures) c.before.before.before.put.ensures)
 
 pub write_bytes-next-requires : goal.write_bytes-next-requires
 write_bytes-next-requires c = omega (arith, refusal_size c.before.before.before.args.n)

@@ -59,7 +59,7 @@ put-requires c =
 
 pub returns : goal.returns
 unfolding sums
-returns c = written_then (three c.before.before.before.before.before.before) c.before.before.put.ensures
+returns c = written_then (three c.before.before.before.before.before.before.before) c.before.before.before.put.ensures
 
 pub overflow_add-both : goal.overflow_add-both
-overflow_add-both c = rw (to_z-of_z c.before.ranges.rbns, to_z-of_z c.before.ranges.ibnr) (both_fits c.before)
+overflow_add-both c = rw (to_z-of_z c.before.before.ranges.rbns, to_z-of_z c.before.before.ranges.ibnr) (both_fits c.before.before)

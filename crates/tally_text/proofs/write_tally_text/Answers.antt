@@ -1,5 +1,6 @@
 -- `text::tally_text::write_tally_text` meets its contract: the lines, T and the totals. Assumes
 -- nothing.
+use mir.Syntax.{w64}
 use mathlib.Core.List.{[], ◌∷◌}
 use native.Mathlib.Omega.{arith}
 use mir.Facts.{to_z-of_z}
@@ -24,17 +25,17 @@ name c = c.put-next.ensures
 pub write_lines-end-requires : goal.write_lines-end-requires
 write_lines-end-requires c =
     let s = c.before.before in
-    (omega arith, (s.requires.printable.0.both, omega (arith, tally_text_size s.args.m (tally s))))
+    record { n_bound = omega arith; by_index = s.requires.printable.both; n_in_bounds = omega (arith, tally_text_size s.args.m (tally s)) }
 
 pub spaced_sum-first-requires : goal.spaced_sum-first-requires
 spaced_sum-first-requires c =
-    let s = c.before.before.before.before.before.before in
-    total_spaced _ _ (omega arith) s.requires.printable.0.first_total
+    let s = c.before.before.before.before.before.before.before in
+    total_spaced _ _ (omega arith) s.requires.printable.first_total
 
 pub spaced_sum-second-requires : goal.spaced_sum-second-requires
 spaced_sum-second-requires c =
-    let s = c.before.before.before.before.before.before.before.before in
-    total_spaced _ _ (omega arith) s.requires.printable.0.second_total
+    let s = c.before.before.before.before.before.before.before.before.before in
+    total_spaced _ _ (omega arith) s.requires.printable.second_total
 
 pub put-next-requires : goal.put-next-requires
 put-next-requires c =
@@ -49,12 +50,12 @@ write_sums-requires c =
     let x = y.before.before in
     let w = x.before.before.before.before in
     let s = w.before.before.before in
-    rw (to_z-of_z (sfits_of x.spaced_sum-first.type_inv), to_z-of_z (sfits_of y.spaced_sum-second.type_inv), x.spaced_sum-first.ensures, y.spaced_sum-second.ensures, total_is _ s.args.rbns.now, total_is _ s.args.ibnr.now)
-    record { ibnr_value = s.requires.printable.0.total; ibnr_in_bounds = omega (arith, tally_text_size s.args.m (tally s), w.write_lines-end.ensures.end, p.put-next.ensures.end) }
+    rw (to_z-of_z {w = w64} (sfits_of x.spaced_sum-first.type_inv), to_z-of_z {w = w64} (sfits_of y.spaced_sum-second.type_inv), x.spaced_sum-first.ensures, y.spaced_sum-second.ensures, total_is _ s.args.rbns.now, total_is _ s.args.ibnr.now)
+    record { ibnr_value = s.requires.printable.total; ibnr_in_bounds = omega (arith, tally_text_size s.args.m (tally s), w.write_lines-end.ensures.end, p.put-next.ensures.end) }
 
 pub returns : goal.returns
 returns c =
-    let p = c.before.before.before.before.before.before in
+    let p = c.before.before.before.before.before.before.before in
     let y = p.before.before in
     let x = y.before.before in
     let w = x.before.before.before.before in
@@ -63,8 +64,8 @@ returns c =
     (written_whole
     (written_then w.write_lines-end.ensures
     (written_then (name p)
-    (rw (to_z-of_z (sfits_of x.spaced_sum-first.type_inv), to_z-of_z (sfits_of y.spaced_sum-second.type_inv), x.spaced_sum-first.ensures, y.spaced_sum-second.ensures, total_is _ s.args.rbns.now, total_is _ s.args.ibnr.now)
-    at c.before.before.write_sums.ensures))))
+    (rw (to_z-of_z {w = w64} (sfits_of x.spaced_sum-first.type_inv), to_z-of_z {w = w64} (sfits_of y.spaced_sum-second.type_inv), x.spaced_sum-first.ensures, y.spaced_sum-second.ensures, total_is _ s.args.rbns.now, total_is _ s.args.ibnr.now)
+    at c.before.before.before.write_sums.ensures))))
 
 pub overflow_mul-years : goal.overflow_mul-years
 overflow_mul-years c = omega arith

@@ -8,7 +8,13 @@ use Rattle.model.specs.Page.{aligned}
 use Rattle.text.specs.Written.{written_then}
 use borrow.Author.Rules.{rules}
 use Rattle.text.proofs.write_aligned.Goals as goal
-use Rattle.text.proofs.write_aligned.Goals.{After-amount_length-n}
+use Rattle.text.proofs.write_aligned.Lts as lts
+use Rattle.text.proofs.write_aligned.Tie as tie
+use Rattle.text.proofs.write_aligned.Reads as reads
+
+-- the places, as the steps before a goal know them
+abbrev After-amount_length-n : Type 0
+After-amount_length-n = lts.After-amount_length tie.the-claims reads.Pre reads.Post tie.handed_clauses
 
 long : (c : After-amount_length-n) → c.amount_length-n.result ≡ length (amount c.before.before.args.value)
 long c = rw (to_z-of_z c.before.before.ranges.value) at c.amount_length-n.ensures
@@ -25,7 +31,7 @@ write_amount-requires c =
 pub returns : goal.returns
 unfolding aligned
 returns c =
-    let w = c.before.before.before.before.before.before in
+    let w = c.before.before.before.before.before.before.before in
     let a = w.before.before in
     let s = a.before.before in
-    written_then (rw (long a) at w.write_spaces-start.ensures) (rw (to_z-of_z s.ranges.value) at c.before.before.write_amount.ensures)
+    written_then (rw (long a) at w.write_spaces-start.ensures) (rw (to_z-of_z s.ranges.value) at c.before.before.before.write_amount.ensures)

@@ -12,7 +12,7 @@ use Rattle.text.proofs.write_bytes.Goals as goal
 
 pub loop-k-preserved : goal.loop-k-preserved
 loop-k-preserved c =
-    let i = c.before in
+    let i = c.before.before in
     let l = i.before in
     let s = l.before.args.s.now in
     let k = l.loop-k.k in
@@ -32,7 +32,7 @@ pub overflow_add-out : goal.overflow_add-out
 overflow_add-out c = omega arith
 
 pub bounds-out-at : goal.bounds-out-at
-bounds-out-at c = omega (arith, written_length c.before.before.loop-k.invariant.1)
+bounds-out-at c = omega (arith, written_length c.before.before.before.loop-k.invariant.1)
 
 pub overflow_add-k : goal.overflow_add-k
 overflow_add-k c = omega arith

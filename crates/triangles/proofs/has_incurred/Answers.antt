@@ -8,7 +8,7 @@ use Rattle.triangles.proofs.has_incurred.Goals as goal
 
 pub returns : goal.returns
 unfolding has_incurred
-returns c = rw c.set_records.ensures
+returns c = rw c.before.set_records.ensures
 
 pub overflow_mul-result : goal.overflow_mul-result
-overflow_mul-result c = omega (arith, set_most _ true c.before.before.requires, c.set_records.ensures)
+overflow_mul-result c = omega (arith, set_most _ true c.before.before.before.requires, c.before.set_records.ensures)

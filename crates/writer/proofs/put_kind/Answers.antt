@@ -18,7 +18,7 @@ put_year-next-requires c =
 pub loop-k-preserved : goal.loop-k-preserved
 unfolding kind_bytes
 loop-k-preserved c =
-    let w = c.before.before in
+    let w = c.before.before.before in
     let l = w.before.before.before.loop-k in
     let s = w.before.before.before.before.before in
     (omega arith, filled_next _ _ _ l.invariant.1 s.args.m s.requires.cells_in_bounds (rw add-one at w.put_year-next.ensures) w.put_year-next.auto.0)

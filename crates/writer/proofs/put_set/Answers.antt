@@ -66,7 +66,7 @@ whole s n e w = w.bytes ∙ ap (λ (k : ℕ). overlay s.args.out.now 0 (chained 
 pub returns-then-has_incurred : goal.returns-then-has_incurred
 unfolding lent_kind kinds
 returns-then-has_incurred c =
-    let g = c.before.before in
+    let g = c.before.before.before in
     let d = g.before.before.before.before.before in
     let s = d.before.before.before.before.before.before.before in
     rw (file s)
@@ -76,6 +76,6 @@ returns-then-has_incurred c =
 pub returns-else-has_incurred : goal.returns-else-has_incurred
 unfolding kinds
 returns-else-has_incurred c =
-    let d = c.before.before.before in
+    let d = c.before.before.before.before in
     let s = d.before.before.before.before.before.before.before in
-    rw (file s) (whole s 2 (ap kinds c.if-has_incurred.false) (second d))
+    rw (file s) (whole s 2 (ap kinds c.before.if-has_incurred.false) (second d))

@@ -1,4 +1,5 @@
 -- `put_year` meets its contract: the records so far are written. Assumes nothing.
+use mir.Syntax.{w64}
 use native.Mathlib.Omega.{arith}
 use borrow.Author.Rules.{rules}
 use Prim.Native.Nat.{ℕ, ◌+◌, ◌-◌, ◌≤◌}
@@ -27,12 +28,12 @@ put-requires c =
 pub loop-j-preserved : goal.loop-j-preserved
 unfolding year_bytes
 loop-j-preserved c =
-    let w = c.before.before in
+    let w = c.before.before.before in
     let b = w.before in
     let v = b.before.before.before in
     let l = v.before.before.loop-j in
     let s = v.before.before.before.before in
-    let e = b.record_bytes.ensures ∙ ap (record_of s.args.kind s.args.year l.j s.args.line) (b.before.to_word.ensures ∙ ap word (to_z-of_z (record { sfits = v.v-1.given }))) in (
+    let e = b.record_bytes.ensures ∙ ap (record_of s.args.kind s.args.year l.j s.args.line) (b.before.to_word.ensures ∙ ap word (to_z-of_z {w = w64} (record { sfits = v.v-1.given }))) in (
       omega arith,
       filled_next _ _ _ l.invariant.1 s.args.n s.requires.n_in_bounds
           (ap (λ (n : ℕ). l.next + n) (sym (length_record _ _ _ _ _)), w.put.ensures ∙ ap (overlay l.out-1 l.next) e) w.put.auto.0,
@@ -67,7 +68,7 @@ pub record_bytes-requires : goal.record_bytes-requires
 record_bytes-requires c = (search rules, search rules, omega arith, search rules)
 
 pub overflow_add-next : goal.overflow_add-next
-overflow_add-next c = omega (arith, put_requires c.before.before.before c.before.before.put.lifetimes)
+overflow_add-next c = omega (arith, put_requires c.before.before.before.before c.before.before.before.put.lifetimes)
 
 pub overflow_add-j : goal.overflow_add-j
 overflow_add-j c = omega arith

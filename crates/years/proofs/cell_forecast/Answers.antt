@@ -21,7 +21,17 @@ use Rattle.years.specs.Ready.{year_weights}
 use Rattle.years.specs.ReadyLaws.{counted, estimated, same_weights, year, shares_fit}
 use Rattle.years.specs.YearsLaws.{year_inside, all_inside, no_years, length_years, one_more_year}
 use Rattle.years.proofs.cell_forecast.Goals as goal
-use Rattle.years.proofs.cell_forecast.Goals.{After-weights, After-write_year-arg-in-loop-n-1, At-loop-n, Joined-basis-eq1, Start}
+use Rattle.years.proofs.cell_forecast.Lts as lts
+use Rattle.years.proofs.cell_forecast.Tie as tie
+use Rattle.years.proofs.cell_forecast.Reads as reads
+use Rattle.years.proofs.cell_forecast.Goals.{At-loop-n, Joined-basis-eq1, Start}
+
+-- the places, as the steps before a goal know them
+abbrev After-weights : Type 0
+After-weights = lts.After-weights tie.the-claims reads.Pre reads.Post goal.the-invariant-loop-n goal.the-decreases-loop-n tie.handed_clauses
+
+abbrev After-write_year-arg-in-loop-n-1 : Type 0
+After-write_year-arg-in-loop-n-1 = lts.After-write_year-arg2 tie.the-claims reads.Pre reads.Post goal.the-invariant-loop-n goal.the-decreases-loop-n tie.handed_clauses
 
 module _ (a : Start) where
   abbrev weights : ℕ → List ℤ
@@ -40,7 +50,7 @@ module _ (a : Start) where
   long n = length_years a.args.m some a.args.v.now weights a.args.shares.now a.args.p n
 
 -- the whole sums under basis 1
-whole_is : (c : Joined-basis-eq1) → c.before.args.basis ≡ 1 → c.if-basis-eq1.whole-1 ≡ sums c.before 0
+whole_is : (c : Joined-basis-eq1) → c.before.args.basis ≡ 1 → c.if-basis-eq1.whole ≡ sums c.before 0
 whole_is c b = ⊎_elim (λ w. w.4 ∙ w.3.ensures) (λ w. absurd (w.0.left b)) c.if-basis-eq1.branch
 
 module _ (l : At-loop-n) where
@@ -48,10 +58,10 @@ module _ (l : At-loop-n) where
   a = l.before.before.before
 
   -- what is written so far has the output's length
-  same : length l.loop-n.out-1 ≡ length a.args.out.now
+  same : length l.loop-n.out ≡ length a.args.out.now
   same =
-      let k = mul-le-mul_right (2 * (2 * a.args.m - 1)) l.loop-n.inv.0 in
-      ap length l.loop-n.inv.1 ∙ length_overlay a.args.out.now 0 (years a l.loop-n.n) (omega (arith, long a l.loop-n.n, all_inside a.args.m, a.requires.m_in_bounds))
+      let k = mul-le-mul_right (2 * (2 * a.args.m - 1)) l.loop-n.invariant.0 in
+      ap length l.loop-n.invariant.1 ∙ length_overlay a.args.out.now 0 (years a l.loop-n.n) (omega (arith, long a l.loop-n.n, all_inside a.args.m, a.requires.m_in_bounds))
 
   -- the entries of the next year, from the sums over its unreported claims
   abbrev entries : List ℤ → List ℤ
@@ -63,12 +73,12 @@ weights_are c =
     let l = c.before.before.before in
     let b = (a l).args in
     c.weights.ensures
-    ∙ same_weights b.m (triangle_in 0 b.set.now) b.basis b.g.now b.latest.now (l.loop-n.n + 1) l.loop-n.s-1 b.shares.now l.loop-n.invariant.3
+    ∙ same_weights b.m (triangle_in 0 b.set.now) b.basis b.g.now b.latest.now (l.loop-n.n + 1) l.loop-n.s b.shares.now l.loop-n.invariant.3
 
 -- a row base as it is read
 base_back : (c : After-write_year-arg-in-loop-n-1) → (let l = c.before.before.before.before.before in
     to_z w64 (of_z w64 (at (a l).args.v.now l.loop-n.n)) ≡ at (a l).args.v.now l.loop-n.n)
-base_back c = to_z-of_z (record { sfits = c.write_year-arg-in-loop-n-1.given })
+base_back c = to_z-of_z {w = w64} (record { sfits = c.write_year-arg-in-loop-n-1.given })
 
 pub loop-n-init : goal.loop-n-init
 loop-n-init c =
@@ -88,7 +98,7 @@ weights-requires c =
 
 pub overflow_mul-n : goal.overflow_mul-n
 overflow_mul-n c =
-    let l = c.before.before.before.before in
+    let l = c.before.before.before.before.before in
     let k = year_inside (a l).args.m l.loop-n.n (omega arith) in
     omega (arith, (a l).requires.m_in_bounds)
 
@@ -111,7 +121,7 @@ one_more_delay-requires c =
 
 pub loop-n-preserved : goal.loop-n-preserved
 loop-n-preserved c =
-    let y = c.before.before.before.before in
+    let y = c.before.before.before.before.before in
     let d = y.before.before.before.before.before in
     let w = d.before.before in
     let l = w.before.before.before in
@@ -122,11 +132,11 @@ loop-n-preserved c =
     let e : b.m - 1 - n ≡ b.m - (n + 1) = omega arith in (
       omega arith,
       (rw (base_back d, weights_are w) at y.write_year.ensures)
-          ∙ ap (λ (x : List ℤ). overlay l.loop-n.out-1 place (entries l x)) l.loop-n.invariant.2
+          ∙ ap (λ (x : List ℤ). overlay l.loop-n.out place (entries l x)) l.loop-n.invariant.2
           ∙ ap (λ (o : List ℤ). overlay o place u) l.loop-n.invariant.1
           ∙ overlay_more b.out-1.now 0 (years (a l) n) u place (omega arith) (rw (long (a l) n) (omega arith))
           ∙ ap (overlay b.out-1.now 0) (one_more_year b.m (some (a l)) b.v.now (weights (a l)) b.shares.now b.t9 n),
-      c.one_more_delay.ensures ∙ ap (sums (a l)) e,
+      c.before.one_more_delay.ensures ∙ ap (sums (a l)) e,
       λ q. weights_are w ∙ estimated b.m (triangle_in 0 b.set.now) b.basis b.g.now b.latest.now (n + 1) b.shares.now q,
     )
 

@@ -34,10 +34,10 @@ module _ (c : After-sums-1) where
   y = at s.args.p.now e.loop-l.l
 
   x_back : to_z w64 (of_z w64 x) ≡ x
-  x_back = to_z-of_z (record { sfits = e.before.share-1.given })
+  x_back = to_z-of_z {w = w64} (record { sfits = e.before.share-1.given })
 
   y_back : to_z w64 (of_z w64 y) ≡ y
-  y_back = to_z-of_z (record { sfits = c.sums-1.given })
+  y_back = to_z-of_z {w = w64} (record { sfits = c.sums-1.given })
 
   product_fits : SFits w64 (x *ℤ y)
   product_fits =
@@ -59,11 +59,11 @@ module _ (c : After-sums-1) where
 
 -- the sum that is stored at place k + l
 stored : (c : After-sums-in-loop-l-1) → (let d = c.before in
-    to_z w64 (of_z w64 (at (e d).loop-l.sums-1 ((s d).args.k + (e d).loop-l.l))) +ℤ to_z w64 (of_z w64 (to_z w64 (of_z w64 (x d)) *ℤ to_z w64 (of_z w64 (y d)))) ≡ z d +ℤ x d *ℤ y d)
+    to_z w64 (of_z w64 (at (e d).loop-l.sums ((s d).args.k + (e d).loop-l.l))) +ℤ to_z w64 (of_z w64 (to_z w64 (of_z w64 (x d)) *ℤ to_z w64 (of_z w64 (y d)))) ≡ z d +ℤ x d *ℤ y d)
 stored c =
     let d = c.before in
     rw (x_back d, y_back d, to_z-of_z (product_fits d))
-    (ap (λ (a : ℤ). a +ℤ x d *ℤ y d) (to_z-of_z (record { sfits = c.sums-in-loop-l-1.given }) ∙ ap (λ (l : List ℤ). at l ((s d).args.k + (e d).loop-l.l)) (e d).loop-l.invariant.1))
+    (ap (λ (a : ℤ). a +ℤ x d *ℤ y d) (to_z-of_z {w = w64} (record { sfits = c.sums-in-loop-l-1.given }) ∙ ap (λ (l : List ℤ). at l ((s d).args.k + (e d).loop-l.l)) (e d).loop-l.invariant.1))
 
 pub loop-l-init : goal.loop-l-init
 loop-l-init c =

@@ -3,4 +3,4 @@ use borrow.Author.Rules.{rules}
 use Rattle.c_api.proofs.closing.pardesul_closing_page.Goals as goal
 
 pub returns : goal.returns
-returns c = c.before.before.closing_page.ensures
+returns c = c.before.before.before.closing_page.ensures

@@ -9,25 +9,10 @@ use Rattle.c_api.proofs.costs.pardesul_claim_costs.Goals as goal
 
 pub returns-then-refusal-ne0 : goal.returns-then-refusal-ne0
 returns-then-refusal-ne0 c =
-    let k = ne_eqb _ 0 c.if-refusal-ne0.true in
-    (ap (λ (a : ClaimCostsAnswer). a.refusal) c.before.claim_costs_lem.ensures, (rw k, (rw k, (rw k, (rw k, rw k)))))
+    let k = ne_eqb _ 0 c.before.if-refusal-ne0.true in
+    record { value = ap (λ (a : ClaimCostsAnswer). a.refusal) c.before.before.claim_costs-answer.ensures; line_after = rw k; mu_after = rw k; factors_after = rw k; kinds_after = rw k; ratios_after = rw k }
 
 pub returns : goal.returns
 returns c =
-    let d = c.before.before.before.before.before in
-    let e = d.before.claim_costs_lem.ensures in (
-      sym d.if-refusal-ne0.false ∙ ap (λ (a : ClaimCostsAnswer). a.refusal) e,
-      (
-        ap (λ (a : ClaimCostsAnswer). a.line) e,
-        (
-          ap (λ (a : ClaimCostsAnswer). a.costs.mu) e,
-          (
-            ap (λ (a : ClaimCostsAnswer). a.costs.factors) e,
-            (
-              c.split.ensures.kinds_after ∙ ap (λ (a : ClaimCostsAnswer). kinds_of a.costs.inflations-1) e,
-              c.split.ensures.ratios_after ∙ ap (λ (a : ClaimCostsAnswer). ratios_of a.costs.inflations-1) e,
-            ),
-          ),
-        ),
-      ),
-    )
+    let d = c.before.before.before.before.before.before in
+    let e = d.before.claim_costs-answer.ensures in record { value = sym d.if-refusal-ne0.false ∙ ap (λ (a : ClaimCostsAnswer). a.refusal) e; line_after = ap (λ (a : ClaimCostsAnswer). a.line) e; mu_after = ap (λ (a : ClaimCostsAnswer). a.costs.mu) e; factors_after = ap (λ (a : ClaimCostsAnswer). a.costs.factors) e; kinds_after = c.before.split.ensures.kinds_after ∙ ap (λ (a : ClaimCostsAnswer). kinds_of a.costs.inflations) e; ratios_after = c.before.split.ensures.ratios_after ∙ ap (λ (a : ClaimCostsAnswer). ratios_of a.costs.inflations) e }

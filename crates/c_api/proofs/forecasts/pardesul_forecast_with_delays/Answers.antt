@@ -7,7 +7,7 @@ use Rattle.c_api.proofs.forecasts.pardesul_forecast_with_delays.Goals as goal
 
 pub returns : goal.returns
 returns c =
-    let w = c.before.before.before in
+    let w = c.before.before.before.before in
     let a = w.before.before.before.before.args in
     let e = w.forecast_with_delays_into-refusal.ensures in
-    (e.0, (c.Store-Line.ensures ∙ forecast_with_line a.m a.file.now a.method a.basis a.out-1.now a.delays.now e.0 a.line.now, (e.1.1.0, (e.1.0, e.1.1.1))))
+    record { value = e.0; line_after = c.before.Store-Line.ensures ∙ forecast_with_line a.m a.file.now a.method a.basis a.out-1.now a.delays.now e.0 a.line.now; out_after = e.1.1.0; leftovers_after = e.1.0; near_reserves = e.1.1.1 }

@@ -6,7 +6,7 @@ use Rattle.c_api.proofs.ladder.pardesul_delays.Goals as goal
 
 pub returns : goal.returns
 returns c =
-    let w = c.before.before in
+    let w = c.before.before.before in
     let a = w.before.before.before.args in
     let e = w.delays_into-refusal.ensures in
-    (e.0, (c.Store-Line.ensures ∙ delays_line a.m a.file.now e.0 a.line.now, e.1))
+    record { value = e.0; line_after = c.before.Store-Line.ensures ∙ delays_line a.m a.file.now e.0 a.line.now; p_after = e.1 }

@@ -6,7 +6,7 @@ use Rattle.c_api.proofs.ladder.pardesul_shares.Goals as goal
 
 pub returns : goal.returns
 returns c =
-    let w = c.before.before in
+    let w = c.before.before.before in
     let a = w.before.before.before.before.before.before.before.args in
     let e = w.shares_into-refusal.ensures in
-    (e.0, (c.Store-Line.ensures ∙ shares_line a.m a.file.now e.0 a.line.now, e.1))
+    (e.0, (c.before.Store-Line.ensures ∙ shares_line a.m a.file.now e.0 a.line.now, e.1))

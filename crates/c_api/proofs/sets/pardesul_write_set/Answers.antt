@@ -3,4 +3,4 @@ use borrow.Author.Rules.{rules}
 use Rattle.c_api.proofs.sets.pardesul_write_set.Goals as goal
 
 pub returns : goal.returns
-returns c = c.before.before.write_lent.ensures
+returns c = c.before.before.before.write_lent.ensures

@@ -34,7 +34,7 @@ module _ (c : After-row_gap-x) where
   added : to_z w64 c.before.before.loop-k.out-bits +ℤ to_z w64 (of_z w64 c.row_gap-x.result) ≡ rows start.args.d.now start.args.n (k + 1)
   added =
       sum_more k _ c.before.before.loop-k.invariant.1 (part_fits _ start.args.n k start.requires.0 start.requires.1 (omega arith))
-      (to_z-of_z (record { sfits = c.row_gap-x.type_inv }) ∙ c.row_gap-x.ensures)
+      (to_z-of_z {w = w64} (record { sfits = c.row_gap-x.type_inv }) ∙ c.row_gap-x.ensures)
 
 -- the sum of all
 all_is : (c : After-loop-k) → to_z w64 c.before.loop-k.out-bits ≡ rows c.before.before.args.d.now c.before.before.args.n c.before.before.args.n

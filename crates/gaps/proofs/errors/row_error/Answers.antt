@@ -23,7 +23,7 @@ module _ (c : After-x-1) where
   x_is : to_z w64 (of_z w64 (at start.args.d.now (20 * start.args.k + j))) ≡ cell start.args.d.now (suc start.args.k) j
   x_is =
       let e : 20 * start.args.k + j ≡ 20 * (suc start.args.k - 1) + j = omega arith in
-      to_z-of_z (record { sfits = c.x-1.given }) ∙ ap (at start.args.d.now) e
+      to_z-of_z {w = w64} (record { sfits = c.x-1.given }) ∙ ap (at start.args.d.now) e
 
   x_small : nat_abs (cell start.args.d.now (suc start.args.k) j) ≤ 5 * 10 ^ 15
   x_small = start.requires.0.gap start.args.k j (omega arith) (omega arith)

@@ -34,7 +34,7 @@ module _ (c : After-x-1) where
   added =
       let e : 20 * k + j ≡ 20 * (suc k - 1) + j = omega arith in
       sum_more j _ c.before.before.loop-j.invariant.1 (part_fits _ start.args.n k j start.requires.0 start.requires.1 start.requires.2 (omega arith))
-      (to_z-of_z (record { sfits = c.x-1.given }) ∙ ap (at start.args.d.now) e)
+      (to_z-of_z {w = w64} (record { sfits = c.x-1.given }) ∙ ap (at start.args.d.now) e)
 
 pub overflow_add-out : goal.overflow_add-out
 overflow_add-out c = rw (added c) (part_fits _ (start c).args.n (k c) (j c + 1) (start c).requires.0 (start c).requires.1 (start c).requires.2 (omega arith))

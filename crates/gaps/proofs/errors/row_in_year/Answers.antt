@@ -1,5 +1,6 @@
 -- `errors::row_in_year` meets its contract: the row has one cell in the year, or none. Assumes
 -- nothing.
+use mir.Syntax.{w64}
 use mathlib.Core.Path.{◌≡◌, sym, ◌∙◌, ap}
 use Prim.Native.Nat.{suc, ◌+◌, ◌-◌, ◌*◌}
 use native.Mathlib.Omega.{arith}
@@ -23,5 +24,5 @@ returns c =
     let s = c.before.before.before in
     let a = s.args in
     let e : 20 * a.k + (a.end - 1 - a.k) ≡ 20 * (suc a.k - 1) + (a.end - 1 - a.k) = omega arith in
-    to_z-of_z (record { sfits = c.result-1.given }) ∙ ap (at a.d.now) e
+    to_z-of_z {w = w64} (record { sfits = c.result-1.given }) ∙ ap (at a.d.now) e
     ∙ sym (one_picked (suc a.k) a.end (λ j. cell a.d.now (suc a.k) j) a.n (a.end - 1 - a.k) (omega (arith, c.before.if-n-j.false)) (omega (arith, c.before.before.if-end-k.false)))

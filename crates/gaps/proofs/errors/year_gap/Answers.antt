@@ -32,7 +32,7 @@ module _ (c : After-row_in_year-x) where
   added : to_z w64 c.before.before.loop-k.out-bits +ℤ to_z w64 (of_z w64 c.row_in_year-x.result) ≡ sum (k + 1) (λ k. row_in_year start.args.d.now start.args.n k end)
   added =
       sum_more k _ c.before.before.loop-k.invariant.1 (part_fits _ start.args.n end k start.requires.0 start.requires.1 (omega arith))
-      (to_z-of_z (record { sfits = c.row_in_year-x.type_inv }) ∙ c.row_in_year-x.ensures)
+      (to_z-of_z {w = w64} (record { sfits = c.row_in_year-x.type_inv }) ∙ c.row_in_year-x.ensures)
 
 pub overflow_add-out : goal.overflow_add-out
 overflow_add-out c = rw (added c) (part_fits _ (start c).args.n (end c) (k c + 1) (start c).requires.0 (start c).requires.1 (omega arith))

@@ -26,7 +26,7 @@ module _ (c : After-year_gap-x) where
   gap = year_gap start.args.n (cell start.args.d.now) (suc k)
 
   gap_is : to_z w64 (of_z w64 c.year_gap-x.result) ≡ gap
-  gap_is = to_z-of_z (record { sfits = c.year_gap-x.type_inv }) ∙ c.year_gap-x.ensures ∙ ap (year_gap start.args.n (cell start.args.d.now)) (add-one k)
+  gap_is = to_z-of_z {w = w64} (record { sfits = c.year_gap-x.type_inv }) ∙ c.year_gap-x.ensures ∙ ap (year_gap start.args.n (cell start.args.d.now)) (add-one k)
 
   small : nat_abs gap ≤ 20 * (5 * 10 ^ 15)
   small = gap_small start.args.d.now start.requires.0 start.args.n start.requires.1 (suc k)

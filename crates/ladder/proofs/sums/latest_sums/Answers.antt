@@ -1,4 +1,5 @@
 -- `latest_sums` meets its contract: the rows so far are summed. Assumes nothing.
+use mir.Syntax.{w64}
 use mathlib.Core.Path.{◌≡◌, ◌∙◌}
 use Prim.Native.Nat.{suc, ◌-◌, ◌≤◌}
 use native.Mathlib.Omega.{arith}
@@ -21,7 +22,7 @@ pub loop-k-preserved : goal.loop-k-preserved
 loop-k-preserved c =
     let l = c.before.before.loop-k in
     let s = c.before.before.before in
-    let sum = to_z-of_z (record { sfits = c.spaced_sum.type_inv }) ∙ c.spaced_sum.ensures ∙ row_sum s.args.set.now s.args.kind s.args.m l.k s.requires.1.few (omega arith) in
+    let sum = to_z-of_z {w = w64} (record { sfits = c.spaced_sum.type_inv }) ∙ c.spaced_sum.ensures ∙ row_sum s.args.set.now s.args.kind s.args.m l.k s.requires.1.few (omega arith) in
     (omega arith, listed_next 20 l.k _ (pos 0) (omega (arith, s.requires.1.few)) l.invariant.1 sum)
 
 pub returns : goal.returns

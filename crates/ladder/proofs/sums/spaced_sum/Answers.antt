@@ -32,7 +32,7 @@ module _ (c : After-out-1) where
   k = c.before.before.loop-k.k
 
   added : to_z w64 c.before.before.loop-k.out-bits +ℤ to_z w64 (of_z w64 (number start k)) ≡ sum (k + 1) (number start)
-  added = sum_more k _ c.before.before.loop-k.invariant.1 (part_fits start k (omega arith)) (to_z-of_z (record { sfits = c.out-1.given }))
+  added = sum_more k _ c.before.before.loop-k.invariant.1 (part_fits start k (omega arith)) (to_z-of_z {w = w64} (record { sfits = c.out-1.given }))
 
 pub returns : goal.returns
 returns c =

@@ -11,7 +11,7 @@ use Rattle.rounding.specs.Running.{sum_none, sum_fits, held, sum_more}
 use Rattle.ladder.proofs.sums.spaced_sum.Given as goal
 
 abbrev pub invariant-loop-k : goal.invariant-loop-k
-invariant-loop-k l = (l.k ≤ l.n) × (l.out-bits ≡ of_z w64 (sum l.k (λ i. at l.set (l.first + l.step * i))))
+invariant-loop-k l = (l.k ≤ l.n) × (l.out ≡ (sum l.k (λ i. at l.set (l.first + l.step * i))))
 
 abbrev pub decreases-loop-k : goal.decreases-loop-k
 decreases-loop-k l = l.n - l.k

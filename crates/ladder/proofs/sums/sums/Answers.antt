@@ -123,7 +123,7 @@ unfolding a_sums b_sums
 returns c =
     let l = c.before.loop-k in
     let e : l.k ≡ c.before.before.before.before.before.args.m - 1 = omega arith in
-    (c.before.before.before.latest_sums.ensures, (rw e at l.invariant.1, rw e at l.invariant.2))
+    record { latest_after = c.before.before.before.latest_sums.ensures; a_after = rw e at l.invariant.1; b_after = rw e at l.invariant.2 }
 
 pub latest_sums-requires : goal.latest_sums-requires
 latest_sums-requires c = let s = c.before in (s.requires.kind_bound.0, s.requires.kind_bound.1, s.requires.latest_value.0)

@@ -1,5 +1,6 @@
 -- `row_bases::bases::leftovers` meets its contract. The loop's invariant: the leftovers of the
 -- first k years are in their places. Assumes nothing.
+use mir.Syntax.{w64}
 use mathlib.Core.Path.{◌≡◌, sym}
 use Prim.Native.Nat.{◌-◌, ◌≤◌}
 use native.Mathlib.Omega.{arith}
@@ -13,7 +14,7 @@ use Rattle.row_bases.proofs.bases.leftovers.Goals as goal
 pub leftover-requires : goal.leftover-requires
 leftover-requires c =
     let s = c.before.before.before.before.before in
-    rw (to_z-of_z (record { sfits = c.before.before.leftover-arg-1.given }), to_z-of_z (record { sfits = c.before.leftover-arg-in-loop-k-1.given }), to_z-of_z (record { sfits = c.leftover-arg-in-loop-k-2-1.given }))
+    rw (to_z-of_z {w = w64} (record { sfits = c.before.before.leftover-arg-1.given }), to_z-of_z {w = w64} (record { sfits = c.before.leftover-arg-in-loop-k-1.given }), to_z-of_z {w = w64} (record { sfits = c.leftover-arg-in-loop-k-2-1.given }))
     (s.requires.1 c.before.before.before.before.loop-k.k (omega arith)).year
 
 pub loop-k-preserved : goal.loop-k-preserved
@@ -21,9 +22,9 @@ loop-k-preserved c =
     let d = c.before in
     let l = d.before.before.before.before in
     let a = l.before.args in
-    let e = rw (to_z-of_z (record { sfits = d.before.before.leftover-arg-1.given }), to_z-of_z (record { sfits = d.before.leftover-arg-in-loop-k-1.given }), to_z-of_z (record { sfits = d.leftover-arg-in-loop-k-2-1.given })) at c.leftover.ensures in (
+    let e = rw (to_z-of_z {w = w64} (record { sfits = d.before.before.leftover-arg-1.given }), to_z-of_z {w = w64} (record { sfits = d.before.leftover-arg-in-loop-k-1.given }), to_z-of_z {w = w64} (record { sfits = d.leftover-arg-in-loop-k-2-1.given })) at c.leftover.ensures in (
       omega arith,
-      rw (to_z-of_z (record { sfits = c.leftover.type_inv }), e, l.loop-k.invariant.1) (listed_more 20 l.loop-k.k (left_at a.m a.method a.u.now a.c.now a.w.now) (pos 0) (omega arith)),
+      rw (to_z-of_z {w = w64} (record { sfits = c.leftover.type_inv }), e, l.loop-k.invariant.1) (listed_more 20 l.loop-k.k (left_at a.m a.method a.u.now a.c.now a.w.now) (pos 0) (omega arith)),
     )
 
 pub returns : goal.returns

@@ -34,11 +34,11 @@ module _ (c : After-row_base-arg-in-loop-k-4-1) where
       (to_z w64 (of_z w64 (at a.args.u.now l.loop-k.k))) (to_z w64 (of_z w64 (at a.args.w.now l.loop-k.k))) (to_z w64 (of_z w64 (at a.args.c.now l.loop-k.k)))
   sizes =
       rw (
-        to_z-of_z (record { sfits = c.before.before.before.before.row_base-arg-1.given }),
-        to_z-of_z (record { sfits = c.before.before.before.row_base-arg-in-loop-k-1.given }),
-        to_z-of_z (record { sfits = c.before.before.row_base-arg-in-loop-k-2-1.given }),
-        to_z-of_z (record { sfits = c.before.row_base-arg-in-loop-k-3-1.given }),
-        to_z-of_z (record { sfits = c.row_base-arg-in-loop-k-4-1.given }),
+        to_z-of_z {w = w64} (record { sfits = c.before.before.before.before.row_base-arg-1.given }),
+        to_z-of_z {w = w64} (record { sfits = c.before.before.before.row_base-arg-in-loop-k-1.given }),
+        to_z-of_z {w = w64} (record { sfits = c.before.before.row_base-arg-in-loop-k-2-1.given }),
+        to_z-of_z {w = w64} (record { sfits = c.before.row_base-arg-in-loop-k-3-1.given }),
+        to_z-of_z {w = w64} (record { sfits = c.row_base-arg-in-loop-k-4-1.given }),
       )
       (a.requires.2 l.loop-k.k (omega arith))
 
@@ -46,20 +46,20 @@ answer_is : (c : After-row_base) → c.row_base.result ≡ capped (2 * 10 ^ 14) 
 answer_is c =
     let d = c.before in
     rw (
-      to_z-of_z (record { sfits = d.before.before.before.before.row_base-arg-1.given }),
-      to_z-of_z (record { sfits = d.before.before.before.row_base-arg-in-loop-k-1.given }),
-      to_z-of_z (record { sfits = d.before.before.row_base-arg-in-loop-k-2-1.given }),
-      to_z-of_z (record { sfits = d.before.row_base-arg-in-loop-k-3-1.given }),
-      to_z-of_z (record { sfits = d.row_base-arg-in-loop-k-4-1.given }),
+      to_z-of_z {w = w64} (record { sfits = d.before.before.before.before.row_base-arg-1.given }),
+      to_z-of_z {w = w64} (record { sfits = d.before.before.before.row_base-arg-in-loop-k-1.given }),
+      to_z-of_z {w = w64} (record { sfits = d.before.before.row_base-arg-in-loop-k-2-1.given }),
+      to_z-of_z {w = w64} (record { sfits = d.before.row_base-arg-in-loop-k-3-1.given }),
+      to_z-of_z {w = w64} (record { sfits = d.row_base-arg-in-loop-k-4-1.given }),
     )
     at c.row_base.ensures
 
 pub returns-in_default : goal.returns-in_default
 returns-in_default c =
-    let n = c.before.before in
+    let n = c.before.before.before in
     let d = n.before in
     let k = (l d).loop-k.k in
-    let over = over_is (2 * 10 ^ 14) (base (a d) k) (sym (answer_is n) ∙ c.in_default.is) in
+    let over = over_is (2 * 10 ^ 14) (base (a d) k) (sym (answer_is n) ∙ c.before.enum_told-1.given.1) in
     record {
       answer = sym (every_no (λ i. leb (nat_abs (base (a d) i)) (2 * 10 ^ 14)) (a d).args.m k (omega arith) (lt-leb (nat_abs (base (a d) k)) (2 * 10 ^ 14) over));
       listed_all = λ e. absurd (false≢true e);
@@ -67,10 +67,10 @@ returns-in_default c =
 
 pub loop-k-preserved : goal.loop-k-preserved
 loop-k-preserved c =
-    let n = c.before.before.before in
+    let n = c.before.before.before.before in
     let d = n.before in
     let k = (l d).loop-k.k in
-    let told = within_is (2 * 10 ^ 14) (base (a d) k) c.before.in-Within.base (sym (answer_is n) ∙ c.before.in-Within.is) in
+    let told = within_is (2 * 10 ^ 14) (base (a d) k) c.before.before.base-1.given.0.0 (sym (answer_is n) ∙ c.before.before.base-1.given.1) in
     let fits : SFits w64 (base (a d) k) = fits_abs (omega (arith, told.1)) in (
       omega arith,
       every_more (λ i. leb (nat_abs (base (a d) i)) (2 * 10 ^ 14)) k (l d).loop-k.invariant.1 (le-leb (nat_abs (base (a d) k)) (2 * 10 ^ 14) told.1),

@@ -12,11 +12,9 @@ use Rattle.model.specs.ListsLaws.{every_none, every_more, every_no}
 use Rattle.model.specs.Records.{cell, in_range}
 use Rattle.model.specs.Questions.{each_cell}
 use Rattle.model.specs.Tests.{refused, passed}
+use Rattle.set_file.proofs.questions.cells_ok.Invariants.{year_ok}
 use Rattle.set_file.proofs.questions.cells_ok.Goals as goal
 use Rattle.set_file.proofs.questions.cells_ok.Goals.{After-year_ok}
-
-abbrev year_ok : ℕ → ℕ → List ℤ → ℕ → Bool
-year_ok m t a k = every (m - k) (λ j. in_range t (cell a (suc k) j))
 
 asked : (c : After-year_ok) → let s = c.before.before.before.args in c.year_ok.result ≡ year_ok s.m s.kind s.cells.now c.before.before.loop-k.k
 asked c = rw add-one at c.year_ok.ensures

@@ -13,6 +13,9 @@ use Rattle.model.specs.Questions.{each_cell}
 use Rattle.model.specs.Tests.{refused, passed}
 use Rattle.set_file.proofs.questions.cells_ok.Given as goal
 
+abbrev pub year_ok : ℕ → ℕ → List ℤ → ℕ → Bool
+year_ok m t a k = every (m - k) (λ j. in_range t (cell a (suc k) j))
+
 abbrev pub invariant-loop-k : goal.invariant-loop-k
 invariant-loop-k l = (l.k ≤ l.m) × (every l.k (year_ok l.m l.kind l.cells) ≡ true)
 

@@ -21,7 +21,17 @@ use Rattle.records.specs.Bytes.{head_formed}
 use Rattle.triangles.proofs.Once.{parts_so}
 use Rattle.triangles.proofs.Counting.{Flags, flags_none, flags_more, Cells, cells_none, cells_more}
 use Rattle.triangles.proofs.cells.read_records.Goals as goal
-use Rattle.triangles.proofs.cells.read_records.Goals.{After-key-q, Else-not-record_ok, Start}
+use Rattle.triangles.proofs.cells.read_records.Lts as lts
+use Rattle.triangles.proofs.cells.read_records.Tie as tie
+use Rattle.triangles.proofs.cells.read_records.Reads as reads
+use Rattle.triangles.proofs.cells.read_records.Goals.{Start}
+
+-- the places, as the steps before a goal know them
+abbrev After-key-q : Type 0
+After-key-q = lts.After-key tie.the-claims reads.Pre reads.Post goal.the-invariant-loop-k goal.the-decreases-loop-k tie.handed_clauses
+
+abbrev Else-not-record_ok : Type 0
+Else-not-record_ok = lts.Else1 tie.the-claims reads.Pre reads.Post goal.the-invariant-loop-k goal.the-decreases-loop-k tie.handed_clauses
 
 -- ---- the two ways out
 module _ (m u v : ℕ) (f : List ℕ) (n : ℕ) (set : List ℤ) where
@@ -63,18 +73,18 @@ module _ (c : After-key-q) where
   below = omega (arith, parts c.before, c.key-q.ensures, (start c.before).requires.m_bound)
 
 pub loop-k-init : goal.loop-k-init
-loop-k-init c = (search rules, every_none _, flags_none _, rw c.before.requires.n_in_bounds.1 (cells_none _), sym (every_none _), sym (every_none _))
+loop-k-init c = (search rules, every_none _, flags_none _, rw c.before.before.requires.set_value (cells_none _), sym (every_none _), sym (every_none _))
 
 pub returns-then-not-record_ok : goal.returns-then-not-record_ok
 returns-then-not-record_ok c =
-    let l = c.before.before.before.before.loop-k in
-    let no = refused c.if-not-record_ok.true-raw c.before.record_ok.ensures in
-    malformed _ _ _ _ _ l.set (every_no _ _ l.k c.before.before.before.loop-k-test.true (sym (head_formed _ _ _ _ l.k c.before.before.head-h.ensures) ∙ no))
+    let l = c.before.before.before.before.before.loop-k in
+    let no = refused c.before.if-not-record_ok.true-raw c.before.before.record_ok.ensures in
+    malformed _ _ _ _ _ l.set (every_no _ _ l.k c.before.before.before.before.loop-k-test.true (sym (head_formed _ _ _ _ l.k c.before.before.before.head-h.ensures) ∙ no))
 
 pub loop-k-preserved : goal.loop-k-preserved
 unfolding ranged fresh
 loop-k-preserved c =
-    let v = c.before in
+    let v = c.before.before in
     let b = v.before in
     let e = b.before in
     let l = e.before.before.before.before.loop-k in
@@ -87,39 +97,39 @@ loop-k-preserved c =
       flags_more (file e) l.k (q b) l.seen (keyed b) (below b) l.invariant.2,
       cells_more (file e) l.k (q b) _ l.set (keyed b) (below b) value l.invariant.3,
       every_next _ l.k l.invariant.4 (l.invariant.2.1 (q b) (below b) ∙ rw (keyed b)),
-      every_next _ l.k l.invariant.5 (c.in_range_lem.ensures ∙ ap₂ in_range h.kind_is value),
+      every_next _ l.k l.invariant.5 (c.before.in_range-ranged.ensures ∙ ap₂ in_range h.kind_is value),
     )
 
 pub returns : goal.returns
 returns c =
-    let l = c.before.before.loop-k in
-    let e : l.k ≡ c.before.before.before.before.args.n = omega arith in
+    let l = c.before.before.before.loop-k in
+    let e : l.k ≡ c.before.before.before.before.before.args.n = omega arith in
     let i = rw e at l.invariant in
-    formed _ _ _ _ _ _ _ i.1 (c.first_no.ensures ∙ rw (i.4, i.5)) i.3
+    formed _ _ _ _ _ _ _ i.1 (c.before.first_no.ensures ∙ rw (i.4, i.5)) i.3
 
 pub head-h-requires : goal.head-h-requires
 head-h-requires c = omega arith
 
 pub record_ok-requires : goal.record_ok-requires
-record_ok-requires c = (c.head-h.ensures.year_is.1, c.head-h.ensures.delay_is.1)
+record_ok-requires c = (c.before.head-h.ensures.year_is.1, c.before.head-h.ensures.delay_is.1)
 
 pub key-q-requires : goal.key-q-requires
-key-q-requires c = let p = parts c in (omega (arith, (start c).requires.m_bound), p.1, omega (arith, (start c).requires.m_bound))
+key-q-requires c = let p = parts c.before in (omega (arith, (start c.before).requires.m_bound), p.1, omega (arith, (start c.before).requires.m_bound))
 
 pub value-v-requires : goal.value-v-requires
 value-v-requires c = omega arith
 
 pub bounds-seen-q : goal.bounds-seen-q
-bounds-seen-q c = below c.before
+bounds-seen-q c = below c.before.before
 
 pub bounds-seen-q-in-loop-k : goal.bounds-seen-q-in-loop-k
-bounds-seen-q-in-loop-k c = below c.before
+bounds-seen-q-in-loop-k c = below c.before.before
 
 pub offset_bounds-set-q : goal.offset_bounds-set-q
-offset_bounds-set-q c = omega (arith, below c.before)
+offset_bounds-set-q c = omega (arith, below c.before.before)
 
 pub bounds-set-q : goal.bounds-set-q
-bounds-set-q c = below c.before
+bounds-set-q c = below c.before.before
 
 pub overflow_add-k : goal.overflow_add-k
 overflow_add-k c = omega arith

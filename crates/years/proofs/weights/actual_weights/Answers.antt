@@ -35,7 +35,7 @@ module _ (c : After-round_div-arg-1) where
   count_back =
       let q = 20 * (a.args.i - 1) + c.before.before.loop-k.k in
       let e : q ≡ 400 * 0 + q = omega arith in
-      to_z-of_z (record { sfits = c.round_div-arg-1.given }) ∙ ap (at a.args.set.now) e
+      to_z-of_z {w = w64} (record { sfits = c.round_div-arg-1.given }) ∙ ap (at a.args.set.now) e
       ∙ sym (at_triangle 0 q a.args.set.now (omega arith))
 
   product_small : nat_abs (count *ℤ a.args.g) ≤ 10 ^ 16
@@ -65,7 +65,7 @@ loop-k-preserved c =
     let n = to_z-of_z (a d).ranges.latest in
     let e = rw (count_back d, g, n, to_z-of_z (product_fits d)) at c.round_div.ensures in (
       omega arith,
-      ap₂ (λ (v : List ℤ) (z : ℤ). set v l.loop-k.k z) (rw (g, n) at l.loop-k.invariant.1) (to_z-of_z (record { sfits = c.round_div.type_inv }) ∙ e)
+      ap₂ (λ (v : List ℤ) (z : ℤ). set v l.loop-k.k z) (rw (g, n) at l.loop-k.invariant.1) (to_z-of_z {w = w64} (record { sfits = c.round_div.type_inv }) ∙ e)
           ∙ listed_more 20 l.loop-k.k (weight (a d)) (pos 0) (omega arith)
           ∙ ap₂ (λ (x y : ℤ). listed 20 (l.loop-k.k + 1) (actual_weight (triangle_in 0 (a d).args.set.now) (a d).args.i x y) (pos 0)) (sym g) (sym n),
     )

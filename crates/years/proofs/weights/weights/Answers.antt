@@ -18,10 +18,10 @@ module _ (c : After-actual_weights-arg-3-1) where
   s = c.before.before.before.before
 
   g_back : to_z w64 (of_z w64 (at s.args.g.now (s.args.m - s.args.i))) ≡ at s.args.g.now (s.args.m - s.args.i)
-  g_back = to_z-of_z (record { sfits = c.before.actual_weights-arg-2-1.given })
+  g_back = to_z-of_z {w = w64} (record { sfits = c.before.actual_weights-arg-2-1.given })
 
   latest_back : to_z w64 (of_z w64 (at s.args.latest.now (s.args.i - 1))) ≡ at s.args.latest.now (s.args.i - 1)
-  latest_back = to_z-of_z (record { sfits = c.actual_weights-arg-3-1.given })
+  latest_back = to_z-of_z {w = w64} (record { sfits = c.actual_weights-arg-3-1.given })
 
 pub returns-then-basis-eq1 : goal.returns-then-basis-eq1
 unfolding year_weights weights_from

@@ -18,3 +18,7 @@ held e h = ap (to_z w64) e ∙ to_z-of_z h
 
 pub sum_more : (i : ℕ) (f : ℕ → ℤ) {w : ℕ} {x : ℤ} → w ≡ of_z w64 (sum i f) → SFits w64 (sum i f) → x ≡ f i → to_z w64 w +ℤ x ≡ sum (i + 1) f
 sum_more i f e h q = ap₂ (λ (a b : ℤ). a +ℤ b) (held e h) q ∙ sym (ap (λ (n : ℕ). sum n f) (add-one i) ∙ sum_suc i f)
+
+-- the same of the number itself
+pub sum_add : (i : ℕ) (f : ℕ → ℤ) {a x : ℤ} → a ≡ sum i f → x ≡ f i → a +ℤ x ≡ sum (i + 1) f
+sum_add i f e q = ap₂ (λ (a b : ℤ). a +ℤ b) e q ∙ sym (ap (λ (n : ℕ). sum n f) (add-one i) ∙ sum_suc i f)

@@ -79,7 +79,7 @@ module _ (e : Else-refusal-ne0) where
   abbrev one : After-prepare-refusal
   one = e.before
 
-  given : Given (n (start one)) (start one).args.set.now (start one).args.method one.prepare-refusal.last.1.1.0 one.prepare-refusal.last.1.1.1.0 one.prepare-refusal.last.1.1.1.1.0 one.prepare-refusal.last.1.1.1.1.1.0 one.prepare-refusal.last.1.1.1.1.1.1.0
+  given : Given (n (start one)) (start one).args.set.now (start one).args.method one.prepare-refusal.new.count_latest one.prepare-refusal.new.count_g one.prepare-refusal.new.paid_latest one.prepare-refusal.new.paid_g one.prepare-refusal.new.p
   given =
       is_given one.prepare-refusal.ensures e.if-refusal-ne0.false (ok (start one)) (λ z. (prepared_so (n (start one)) (s (start one) no_set).counts (s (start one) no_set).paid z).0)
       (solved_range (n (start one)) (s (start one) no_set).counts (s (start one) no_set).paid)
@@ -109,7 +109,7 @@ module _ (c : After-shares_of-shares) where
   abbrev made : After-method_bases-refusal
   made = else2.before
 
-  ready : Ready (n (a made)) (triangle_in 0 (a made).args.set.now) c.shares_of-shares.result (one (two made)).prepare-refusal.last.1.1.1.0 (one (two made)).prepare-refusal.last.1.1.0 made.method_bases-refusal.last.1.1.1.1.1.0 (one (two made)).prepare-refusal.last.1.1.1.1.1.1.0
+  ready : Ready (n (a made)) (triangle_in 0 (a made).args.set.now) c.shares_of-shares.result (one (two made)).prepare-refusal.new.count_g (one (two made)).prepare-refusal.new.count_latest made.method_bases-refusal.new.v (one (two made)).prepare-refusal.new.p
   ready = years_ready (given (two made)) no_set (made.method_bases-refusal.ensures no_set) else2.if-refusal-ne0-2.false c.shares_of-shares.ensures
 
 pub gaps-requires : goal.gaps-requires
@@ -125,7 +125,7 @@ module _ (c : After-gaps) where
   abbrev base : Start
   base = a (made shared)
 
-  small : SmallGaps c.gaps.new.0
+  small : SmallGaps c.gaps.new.d
   small = subst SmallGaps (sym c.gaps.ensures) (gaps_small (sizes base.requires.0 base.requires.1 base.requires.2) base.args.basis (ready shared))
 
   size : (2 ≤ n base) × (n base ≤ 20) × (base.args.c ≤ 20)

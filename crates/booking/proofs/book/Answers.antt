@@ -38,12 +38,12 @@ module _ (c : After-add) where
 pub returns-then-not-add : goal.returns-then-not-add
 returns-then-not-add c =
     let b = c.before in
-    report_18 (given (s₀ b)) (s₀ b).args.x (tested b).before.if-x-eq0.true b.add.new.0 b.add.new.1.0 b.add.result b.add.ensures (sym (owner_is (tested b).before.before) ∙ (tested b).if-owner-ne0.false) (not-true _ c.if-not-add.true-raw)
+    report_18 (given (s₀ b)) (s₀ b).args.x (tested b).before.if-x-eq0.true b.add.new.cells b.add.new.last b.add.result b.add.ensures (sym (owner_is (tested b).before.before) ∙ (tested b).if-owner-ne0.false) (not-true _ c.if-not-add.true-raw)
 
 pub returns-then-x-eq0 : goal.returns-then-x-eq0
 returns-then-x-eq0 c =
     let b = c.before.before in
-    report_yes (given (s₀ b)) (s₀ b).args.x (tested b).before.if-x-eq0.true b.add.new.0 b.add.new.1.0 b.add.result b.add.ensures (sym (owner_is (tested b).before.before) ∙ (tested b).if-owner-ne0.false) (not-false _ c.before.if-not-add.false-raw)
+    report_yes (given (s₀ b)) (s₀ b).args.x (tested b).before.if-x-eq0.true b.add.new.cells b.add.new.last b.add.result b.add.ensures (sym (owner_is (tested b).before.before) ∙ (tested b).if-owner-ne0.false) (not-false _ c.before.if-not-add.false-raw)
 
 paid_kind : (c : Else-x-eq0) → (start c.before).args.x.kind ≡ 1
 paid_kind c = one_of _ (start c.before).requires.kind_is c.if-x-eq0.false
@@ -69,15 +69,15 @@ module _ (c : After-add-2) where
   abbrev s₁ : Start
   s₁ = start tested_2.before.before.before
 
-  added : Added s₁.args.paid.now s₁.args.last.now (booked_at s₁.args.x) 1 s₁.args.x.calendar s₁.args.x.amount c.add-2.new.0 c.add-2.new.1.0 c.add-2.result
+  added : Added s₁.args.paid.now s₁.args.last.now (booked_at s₁.args.x) 1 s₁.args.x.calendar s₁.args.x.amount c.add-2.new.cells c.add-2.new.last c.add-2.result
   added = rw (to_z-of_z (amount_fits told)) at c.add-2.ensures
 
 pub returns-then-not-add-2 : goal.returns-then-not-add-2
 returns-then-not-add-2 c =
     let b = c.before in
-    payment_18 (given (s₁ b)) (s₁ b).args.x (paid_kind (tested_2 b).before.before) b.add-2.new.0 b.add-2.new.1.0 b.add-2.result (added b) (sym (owner_is (tested_2 b).before.before.before) ∙ (tested_2 b).if-owner-x.false) (not-true _ c.if-not-add-2.true-raw)
+    payment_18 (given (s₁ b)) (s₁ b).args.x (paid_kind (tested_2 b).before.before) b.add-2.new.cells b.add-2.new.last b.add-2.result (added b) (sym (owner_is (tested_2 b).before.before.before) ∙ (tested_2 b).if-owner-x.false) (not-true _ c.if-not-add-2.true-raw)
 
 pub returns : goal.returns
 returns c =
     let b = c.before in
-    payment_yes (given (s₁ b)) (s₁ b).args.x (paid_kind (tested_2 b).before.before) b.add-2.new.0 b.add-2.new.1.0 b.add-2.result (added b) (sym (owner_is (tested_2 b).before.before.before) ∙ (tested_2 b).if-owner-x.false) (not-false _ c.if-not-add-2.false-raw)
+    payment_yes (given (s₁ b)) (s₁ b).args.x (paid_kind (tested_2 b).before.before) b.add-2.new.cells b.add-2.new.last b.add-2.result (added b) (sym (owner_is (tested_2 b).before.before.before) ∙ (tested_2 b).if-owner-x.false) (not-false _ c.if-not-add-2.false-raw)

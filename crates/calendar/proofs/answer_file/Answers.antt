@@ -31,7 +31,7 @@ module _ (c : After-forecast_into-refusal) where
   start = c.before.before.before.before.before
 
   abbrev out : List ℤ
-  out = c.forecast_into-refusal.new.1.1.1.1.1.0
+  out = c.forecast_into-refusal.new.out
 
   refusal_is : c.forecast_into-refusal.result ≡ forecast_refusal start.args.m start.args.file.now start.args.method start.args.basis 1560
   refusal_is = c.forecast_into-refusal.ensures.value ∙ forecast_refusal_lem _ _ _ _ _ refl

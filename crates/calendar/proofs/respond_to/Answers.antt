@@ -9,12 +9,12 @@ use Rattle.calendar.proofs.respond_to.Goals as goal
 pub returns-then-n-read : goal.returns-then-n-read
 returns-then-n-read c =
     let s = c.before.before.before.before.before in
-    read_short s.args.input.now s.args.out.now c.answer.new.1.0 s.args.n c.answer.result (omega arith) c.answer.ensures
+    read_short s.args.input.now s.args.out.now c.answer.new.text s.args.n c.answer.result (omega arith) c.answer.ensures
 
 pub returns : goal.returns
 returns c =
     let s = c.before.before.before.before in
-    read_full s.args.input.now s.args.out.now c.answer-2.new.1.0 s.args.n c.answer-2.result (omega arith) (omega arith) c.answer-2.ensures
+    read_full s.args.input.now s.args.out.now c.answer-2.new.text s.args.n c.answer-2.result (omega arith) (omega arith) c.answer-2.ensures
 
 pub slice_bounds-answer-end : goal.slice_bounds-answer-end
 slice_bounds-answer-end c = sym (length-take-le _ _ (omega arith))

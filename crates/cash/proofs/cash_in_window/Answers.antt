@@ -113,12 +113,12 @@ module _ (c : After-forecast_set-refusal) where
   base = read.before
 
   abbrev out : List ℤ
-  out = c.forecast_set-refusal.new.1.1.1.1.1.0
+  out = c.forecast_set-refusal.new.out
 
   abbrev settled : settings_refusal (m base) (f base) (method base) (basis base) ≡ 0
   settled = passed_settings base.read_to_forecast-refusal.ensures read.if-refusal-ne0.false
 
-  abbrev set : lent_set (set_of (m base) (f base)) base.read_to_forecast-refusal.last.1.1.1.1.0 ≡ set_of (m base) (f base)
+  abbrev set : lent_set (set_of (m base) (f base)) base.read_to_forecast-refusal.new.set ≡ set_of (m base) (f base)
   set = base.read_to_forecast-refusal.ensures.holds read.if-refusal-ne0.false
 
   number : c.forecast_set-refusal.result ≡ set_refusal (m base) (set_of (m base) (f base)) (method base)

@@ -30,17 +30,17 @@ module _ (k : After-write_known) where
   abbrev first : ℕ
   first = a.args.m + 1 - a.args.i
 
-  known : k.write_known.last.0 ≡ overlay a.args.out.now a.args.from (entries (2 * first))
+  known : k.write_known.new.out ≡ overlay a.args.out.now a.args.from (entries (2 * first))
   known =
       k.write_known.ensures
       ∙ ap (overlay a.args.out.now a.args.from) (known_entries a.args.m a.args.v a.args.s.now a.args.p.now a.args.unreported.now a.args.i a.requires.year.0.first)
 
-  over : (j : ℕ) → first ≤ j → overlay k.write_known.last.0 a.args.from (entries (2 * j)) ≡ overlay a.args.out.now a.args.from (entries (2 * j))
+  over : (j : ℕ) → first ≤ j → overlay k.write_known.new.out a.args.from (entries (2 * j)) ≡ overlay a.args.out.now a.args.from (entries (2 * j))
   over j h =
       ap (λ (o : List ℤ). overlay o a.args.from (entries (2 * j))) known
       ∙ overlay_over a.args.out.now a.args.from (entries (2 * first)) (entries (2 * j)) (omega arith) (omega (arith, long (2 * first), long (2 * j)))
 
-  first_length : length k.write_known.last.0 ≡ length a.args.out.now
+  first_length : length k.write_known.new.out ≡ length a.args.out.now
   first_length = ap length known ∙ length_overlay a.args.out.now a.args.from (entries (2 * first)) (omega (arith, long (2 * first), a.requires.year.0.first, a.requires.year.0.last))
 
 -- what is written so far, and its length
@@ -48,7 +48,7 @@ module _ (l : At-loop-j) where
   abbrev k : After-write_known
   k = l.before.before
 
-  so_far : l.loop-j.out ≡ overlay k.write_known.last.0 (a k).args.from (entries k (2 * l.loop-j.j))
+  so_far : l.loop-j.out ≡ overlay k.write_known.new.out (a k).args.from (entries k (2 * l.loop-j.j))
   so_far = rw (to_z-of_z (a k).fits.v) at l.loop-j.invariant.2
 
   same : length l.loop-j.out ≡ length (a k).args.out.now
@@ -82,7 +82,7 @@ loop-j-preserved c =
     let b = (a k).args in
     let j = (l c).loop-j.j in
     let at = b.from + 2 * j in
-    let out₀ = k.write_known.last.0 in
+    let out₀ = k.write_known.new.out in
     let v = to_z-of_z (a k).fits.v in
     let e = rw v at c.before.before.open_cell-cell.ensures in
     let cell = cell_of b.m b.v b.s.now b.p.now b.unreported.now b.i j in (

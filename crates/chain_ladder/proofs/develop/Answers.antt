@@ -67,7 +67,7 @@ module _ (c : After-sums) where
   abbrev paid_ok : Amounts m (10 ^ 10) paid
   paid_ok = start.requires.amounts.1
 
-  counts_summed : Summed m counts c.sums.new.1.1.1.0 c.sums.new.1.1.1.1.0 c.sums.new.1.1.1.1.1.0
+  counts_summed : Summed m counts c.sums.new.latest c.sums.new.a c.sums.new.b
   counts_summed =
       record {
         some = (let l = counts_ok.least in omega arith);
@@ -91,7 +91,7 @@ module _ (c : After-sums-2) where
   yes_9 : q9 (m one) (counts one) ≡ true
   yes_9 = sym (answer_9 else1.before) ∙ not-false _ else1.if-not-at_least.false-raw
 
-  paid_summed : Summed (m one) (paid one) c.sums-2.new.1.1.1.0 c.sums-2.new.1.1.1.1.0 c.sums-2.new.1.1.1.1.1.0
+  paid_summed : Summed (m one) (paid one) c.sums-2.new.latest c.sums-2.new.a c.sums-2.new.b
   paid_summed =
       record {
         some = (counts_summed one).some;

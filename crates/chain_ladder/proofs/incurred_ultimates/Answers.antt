@@ -54,7 +54,7 @@ module _ (c : After-sums) where
   abbrev t : List ℤ
   t = triangle_in 2 start.args.set.now
 
-  summed : Summed m t c.sums.new.1.1.1.0 c.sums.new.1.1.1.1.0 c.sums.new.1.1.1.1.1.0
+  summed : Summed m t c.sums.new.latest c.sums.new.a c.sums.new.b
   summed =
       record { some = start.requires.0; small = start.requires.1; latest_is = c.sums.ensures.latest_after; a_is = c.sums.ensures.a_after; b_is = c.sums.ensures.b_after }
 

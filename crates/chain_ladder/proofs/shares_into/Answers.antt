@@ -47,7 +47,7 @@ module _ (c : After-read_cells-refusal) where
   f = start.args.file.now
 
   abbrev lent : List ℤ
-  lent = c.read_cells-refusal.new.1.1.0
+  lent = c.read_cells-refusal.new.set
 
 -- the file is accepted
 module _ (c : Else-refusal-ne0) where
@@ -76,10 +76,10 @@ module _ (c : Else-refusal-ne0-2) where
   abbrev base : After-read_cells-refusal
   base = one (two made)
 
-  counts : Ladder (m base) (triangle_in 0 (lent base)) made.develop-refusal.last.1.1.0 made.develop-refusal.last.1.1.1.0
+  counts : Ladder (m base) (triangle_in 0 (lent base)) made.develop-refusal.new.count_latest made.develop-refusal.new.count_g
   counts = made.develop-refusal.ensures.counts c.if-refusal-ne0-2.false
 
-  paid : Ladder (m base) (triangle_in 1 (lent base)) made.develop-refusal.last.1.1.1.1.0 made.develop-refusal.last.1.1.1.1.1.0
+  paid : Ladder (m base) (triangle_in 1 (lent base)) made.develop-refusal.new.paid_latest made.develop-refusal.new.paid_g
   paid = made.develop-refusal.ensures.paid c.if-refusal-ne0-2.false
 
   shared : Shared (m base) (triangle_in 0 (lent base)) (triangle_in 1 (lent base))

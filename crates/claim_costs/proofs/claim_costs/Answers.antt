@@ -31,7 +31,7 @@ module _ (c : After-read_cells-refusal) where
   f = c.before.before.before.args.file.now
 
   abbrev set : TriangleSet
-  set = lent_set (set_of m f) c.read_cells-refusal.new.1.1.0
+  set = lent_set (set_of m f) c.read_cells-refusal.new.set
 
 -- the file is accepted
 file : (c : Else-refusal-ne0) → Accepted (m c.before) (f c.before) (set c.before)

@@ -35,7 +35,7 @@ module _ (c : After-read_cells-refusal) where
   f = start.args.file.now
 
   abbrev set : TriangleSet
-  set = lent_set (set_of m f) c.read_cells-refusal.new.1.1.0
+  set = lent_set (set_of m f) c.read_cells-refusal.new.set
 
 read : (c : Else-refusal-ne0) → Accepted (m c.before) (f c.before) (set c.before)
 read c = accepted (m c.before) (f c.before) c.before.read_cells-refusal.ensures c.if-refusal-ne0.false

@@ -56,10 +56,10 @@ module _ (e : Else-refusal-ne0) where
   shared : Shared (m one) (c one) (d one)
   shared = record { counts = (start one).requires.amounts.0; paid = (start one).requires.amounts.1; asked = sym one.develop-refusal.ensures.refusal ∙ e.if-refusal-ne0.false }
 
-  counts : Ladder (m one) (c one) one.develop-refusal.last.1.1.0 one.develop-refusal.last.1.1.1.0
+  counts : Ladder (m one) (c one) one.develop-refusal.new.count_latest one.develop-refusal.new.count_g
   counts = one.develop-refusal.ensures.counts e.if-refusal-ne0.false
 
-  paid : Ladder (m one) (d one) one.develop-refusal.last.1.1.1.1.0 one.develop-refusal.last.1.1.1.1.1.0
+  paid : Ladder (m one) (d one) one.develop-refusal.new.paid_latest one.develop-refusal.new.paid_g
   paid = one.develop-refusal.ensures.paid e.if-refusal-ne0.false
 
 module _ (r : After-shares_of-q) where

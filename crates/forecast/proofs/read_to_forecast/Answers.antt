@@ -39,7 +39,7 @@ module _ (c : After-read_cells-refusal) where
   f = start.args.file.now
 
 -- the file is accepted
-file : (c : Else-refusal-ne0) → let b = c.before in Accepted (m b) (f b) (lent_set (set_of (m b) (f b)) b.read_cells-refusal.new.1.1.0)
+file : (c : Else-refusal-ne0) → let b = c.before in Accepted (m b) (f b) (lent_set (set_of (m b) (f b)) b.read_cells-refusal.new.set)
 file c = accepted (m c.before) (f c.before) c.before.read_cells-refusal.ensures c.if-refusal-ne0.false
 
 asked_6 : (c : After-q6) → let b = c.before.before.before in c.q6.result ≡ q6 (has_incurred (m b) (f b)) (start b).args.method (start b).args.basis

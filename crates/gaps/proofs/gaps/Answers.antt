@@ -78,7 +78,7 @@ module _ (c : After-row_gaps-arg-in-loop-k-1) where
   inside : k < n s
   inside = c.before.before.before.before.loop-k-test.true
 
-  weights_are : c.before.before.weights.new.0 ≡ year_weights (n s) (triangle_in 0 s.args.set.now) s.args.basis s.args.shares.now s.args.g.now s.args.latest.now (k + 1)
+  weights_are : c.before.before.weights.new.s ≡ year_weights (n s) (triangle_in 0 s.args.set.now) s.args.basis s.args.shares.now s.args.g.now s.args.latest.now (k + 1)
   weights_are =
       c.before.before.weights.ensures
       ∙ same_weights (n s) (triangle_in 0 s.args.set.now) s.args.basis s.args.g.now s.args.latest.now (k + 1) l.loop-k.s s.args.shares.now l.loop-k.invariant.3

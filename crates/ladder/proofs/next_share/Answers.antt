@@ -24,7 +24,7 @@ use Rattle.ladder.proofs.next_share.Goals.{After-mul_div_capped}
 
 -- the places, as the steps before a goal know them
 abbrev In-Within-2 : Type 0
-In-Within-2 = lts.After-v tie.the-claims reads.Pre reads.Post tie.handed_clauses
+In-Within-2 = lts.After-v tie.the-claims reads.Pre reads.Post
 
 too_far : (z : ℤ) → 4 * 10 ^ 9 < nat_abs z → bounded z ≡ false
 too_far (pos n) h = above_no (pos (10 ^ 6)) (pos (4 * 10 ^ 9)) (pos n) (omega (arith, ints))

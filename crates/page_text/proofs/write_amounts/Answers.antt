@@ -29,13 +29,13 @@ module _ (s : Start) where
   both_fits = fits_so (s.args.rbns +ℤ s.args.ibnr) s.requires.ibnr_value
 
 -- what each field writes, and where it ends
-one : (c : After-write_aligned-second) → (let s = c.before.before.before in Written s.args.out.now s.args.at (aligned 21 (amount s.args.rbns)) c.write_aligned-second.new.0 c.write_aligned-second.result)
+one : (c : After-write_aligned-second) → (let s = c.before.before.before in Written s.args.out.now s.args.at (aligned 21 (amount s.args.rbns)) c.write_aligned-second.new.out c.write_aligned-second.result)
 one c = let s = c.before.before.before in rw (to_z-of_z s.ranges.rbns) at c.write_aligned-second.ensures
 
 end_1 : (c : After-write_aligned-second) → c.write_aligned-second.result ≡ c.before.before.before.args.at + 21
 end_1 c = let s = c.before.before.before in omega (arith, (one c).end, wide s.ranges.rbns)
 
-two : (c : After-write_aligned-third) → (let w = c.before.before.before.before in Written w.write_aligned-second.new.0 w.write_aligned-second.result (aligned 21 (amount w.before.before.before.args.ibnr)) c.write_aligned-third.new.0 c.write_aligned-third.result)
+two : (c : After-write_aligned-third) → (let w = c.before.before.before.before in Written w.write_aligned-second.new.out w.write_aligned-second.result (aligned 21 (amount w.before.before.before.args.ibnr)) c.write_aligned-third.new.out c.write_aligned-third.result)
 two c = rw (to_z-of_z c.before.before.before.before.before.before.before.ranges.ibnr) at c.write_aligned-third.ensures
 
 end_2 : (c : After-write_aligned-third) → c.write_aligned-third.result ≡ c.before.before.before.before.before.before.before.args.at + 42
@@ -44,7 +44,7 @@ end_2 c = let w = c.before.before.before.before in omega (arith, end_1 w, (two c
 three : (c : After-write_aligned-end)
     → (let w = c.before.before.before.before in
     let s = w.before.before.before.before.before.before.before in
-    Written w.write_aligned-third.new.0 w.write_aligned-third.result (aligned 21 (amount (s.args.rbns +ℤ s.args.ibnr))) c.write_aligned-end.new.0 c.write_aligned-end.result)
+    Written w.write_aligned-third.new.out w.write_aligned-third.result (aligned 21 (amount (s.args.rbns +ℤ s.args.ibnr))) c.write_aligned-end.new.out c.write_aligned-end.result)
 three c =
     let s = c.before.before.before.before.before.before.before.before.before.before.before in
     simp (to_z-of_z s.ranges.rbns, to_z-of_z s.ranges.ibnr, to_z-of_z (both_fits s)) at c.write_aligned-end.ensures

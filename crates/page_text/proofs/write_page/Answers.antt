@@ -22,7 +22,7 @@ abbrev tally : Start → Tally
 tally s = tally_in s.args.rbns.now s.args.ibnr.now
 
 -- the heading is written first
-first : (a : After-write_bytes-first) → Written (start a).args.out.now 0 heading a.write_bytes-first.new.0 a.write_bytes-first.result
+first : (a : After-write_bytes-first) → Written (start a).args.out.now 0 heading a.write_bytes-first.new.out a.write_bytes-first.result
 unfolding heading columns aligned
 first a = a.write_bytes-first.ensures
 

@@ -42,7 +42,7 @@ write_aligned-next-requires c =
 -- what is written of the year, and where it ends
 year : (w : After-write_aligned-next)
     → (let i = w.before.before.before.before in
-    Written i.before.loop-k.out i.before.loop-k.end (aligned 4 (digits (i.before.loop-k.k + 1))) w.write_aligned-next.new.0 w.write_aligned-next.result)
+    Written i.before.loop-k.out i.before.loop-k.end (aligned 4 (digits (i.before.loop-k.k + 1))) w.write_aligned-next.new.out w.write_aligned-next.result)
 year w = rw (year_is_lem w.before.before.before.before) at w.write_aligned-next.ensures
 
 year_end : (w : After-write_aligned-next) → w.write_aligned-next.result ≡ w.before.before.before.before.before.loop-k.end + 4

@@ -87,7 +87,7 @@ returns c like =
     }
 
 -- the sizes that the bases ask
-sized : (c : After-ultimates-u) → let b = base c in AllSizes (m b) (start b).args.method c.ultimates-u.result (start b).args.paid-latest.now b.incurred_under.last.1.1.1.0
+sized : (c : After-ultimates-u) → let b = base c in AllSizes (m b) (start b).args.method c.ultimates-u.result (start b).args.paid-latest.now b.incurred_under.new.w
 sized c =
     let b = base c in
     all_sizes (m b) (s b no_set) (start b).args.method (start b).requires.asked b.incurred_under.ensures (yes_13 (two c)) (u_is c) (start b).requires.ladder.0.latest_is

@@ -80,7 +80,7 @@ module _ (c : After-forecast_prepared) where
   abbrev two : After-prepare_from-refusal
   two = one else1
 
-  answered : (like : TriangleSet) → Answered (first_no (of_either (m two) (s two like) (given two) (lent two) (start two).args.method)) (m two) (s two like) (either_delays (m two) (s two like) (given two) (lent two)) (start two).args.method (start two).args.basis c.forecast_prepared.result (start two).args.leftovers.now c.forecast_prepared.new.1.1.1.1.1.1.1.1.1.0 (start two).args.out.now c.forecast_prepared.new.1.1.1.1.1.1.1.1.1.1.0
+  answered : (like : TriangleSet) → Answered (first_no (of_either (m two) (s two like) (given two) (lent two) (start two).args.method)) (m two) (s two like) (either_delays (m two) (s two like) (given two) (lent two)) (start two).args.method (start two).args.basis c.forecast_prepared.result (start two).args.leftovers.now c.forecast_prepared.new.leftovers (start two).args.out.now c.forecast_prepared.new.out
   answered like =
       let a = c.forecast_prepared.ensures like in
       let by = two.prepare_from-refusal.ensures in

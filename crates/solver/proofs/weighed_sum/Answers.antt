@@ -3,14 +3,14 @@ use mathlib.Core.Path.{◌≡◌, ◌∙◌, ap}
 use mathlib.Core.List.{List}
 use Prim.Native.Nat.{ℕ, suc, ◌+◌, ◌-◌, ◌≤◌}
 use native.Mathlib.Omega.{arith}
-use lib.IntN.{ℤ, ◌+ℤ◌, ◌*ℤ◌}
+use lib.IntN.{ℤ, pos, ◌+ℤ◌, ◌*ℤ◌}
 use mir.Syntax.{w64}
 use mir.Val.{SFits, to_z, of_z}
 use mir.Facts.{to_z-of_z}
-use Rattle.integers.specs.Sums.{sum}
+use Rattle.integers.specs.Sums.{sum, sum_zero}
 use Rattle.model.specs.Lists.{at}
 use Rattle.rounding.specs.Words.{fits_abs}
-use Rattle.rounding.specs.Running.{sum_none, held, sum_more}
+use Rattle.rounding.specs.Running.{sum_add}
 use Rattle.solver.specs.Solved.{Weighed, weighed_sum}
 use Rattle.solver.specs.SolvedLaws.{product_small, part_small}
 use Rattle.solver.proofs.weighed_sum.Invariants.{term}
@@ -57,18 +57,18 @@ module _ (c : After-out-in-loop-k-1) where
       let d : k + 1 - first ≡ k - first + 1 = omega (arith, begun) in
       let e : first + (k - first) ≡ k = omega (arith, begun) in
       rw d
-      (sum_more (k - first) _ c.before.before.before.loop-k.invariant.2 (sum_fits (k - first) start.requires (omega (arith, inside)))
+      (sum_add (k - first) _ c.before.before.before.loop-k.invariant.2
       (ap (λ (z : ℤ). to_z w64 (of_z w64 z)) factors ∙ to_z-of_z product_fits ∙ rw e))
 
-nothing_yet : (c : Start) → let a = c.args in 0 ≡ of_z w64 (sum (a.first - a.first) (term a.b.now a.p.now a.first a.l))
-nothing_yet c = let e : c.args.first - c.args.first ≡ 0 = omega arith in rw e (sum_none _)
+nothing_yet : (c : Start) → let a = c.args in pos 0 ≡ sum (a.first - a.first) (term a.b.now a.p.now a.first a.l)
+nothing_yet c = let e : c.args.first - c.args.first ≡ 0 = omega arith in rw e (sym (sum_zero _))
 
 pub returns : goal.returns
 unfolding weighed_sum
 returns c =
     let s = c.before.before in
     let e : c.before.loop-k.k ≡ suc s.args.l = omega arith in
-    rw e at (held c.before.loop-k.invariant.2 (sum_fits (c.before.loop-k.k - s.args.first) s.requires (omega arith)))
+    rw e at c.before.loop-k.invariant.2
 
 pub loop-k-init : goal.loop-k-init
 loop-k-init c = (omega arith, c.requires.some, nothing_yet c)
@@ -98,4 +98,4 @@ pub loop-k-smaller : goal.loop-k-smaller
 loop-k-smaller c = omega arith
 
 pub loop-k-preserved : goal.loop-k-preserved
-loop-k-preserved c = (omega (arith, begun c), omega (arith, inside c), ap (of_z w64) (added c))
+loop-k-preserved c = (omega (arith, begun c), omega (arith, inside c), to_z-of_z (rw (added c) (sum_fits (k c + 1 - first c) (start c).requires (omega (arith, inside c)))) ∙ added c)

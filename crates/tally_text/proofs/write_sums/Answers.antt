@@ -18,19 +18,19 @@ both_fits : (s : Start) → SFits w64 (s.args.rbns +ℤ s.args.ibnr)
 both_fits s = fits_so (s.args.rbns +ℤ s.args.ibnr) s.requires.ibnr_value
 
 -- what is written after one, two and three fields
-one : (c : After-write_field-second) → (let s = c.before.before.before in Written s.args.out.now s.args.at (field s.args.rbns) c.write_field-second.new.0 c.write_field-second.result)
+one : (c : After-write_field-second) → (let s = c.before.before.before in Written s.args.out.now s.args.at (field s.args.rbns) c.write_field-second.new.out c.write_field-second.result)
 one c = let s = c.before.before.before in rw (to_z-of_z s.ranges.rbns) at c.write_field-second.ensures
 
 two : (c : After-write_field-third)
     → (let s = c.before.before.before.before.before.before.before in
-    Written s.args.out.now s.args.at (field s.args.rbns ++ field s.args.ibnr) c.write_field-third.new.0 c.write_field-third.result)
+    Written s.args.out.now s.args.at (field s.args.rbns ++ field s.args.ibnr) c.write_field-third.new.out c.write_field-third.result)
 two c =
     let w = c.before.before.before.before in
     written_then (one w) (rw (to_z-of_z w.before.before.before.ranges.ibnr) at c.write_field-third.ensures)
 
 three : (c : After-write_field-end)
     → (let s = c.before.before.before.before.before.before.before.before.before.before.before in
-    Written s.args.out.now s.args.at (field s.args.rbns ++ field s.args.ibnr ++ field (s.args.rbns +ℤ s.args.ibnr)) c.write_field-end.new.0 c.write_field-end.result)
+    Written s.args.out.now s.args.at (field s.args.rbns ++ field s.args.ibnr ++ field (s.args.rbns +ℤ s.args.ibnr)) c.write_field-end.new.out c.write_field-end.result)
 three c =
     let w = c.before.before.before.before in
     let s = w.before.before.before.before.before.before.before in

@@ -19,7 +19,7 @@ tally s = tally_in s.args.rbns.now s.args.ibnr.now
 -- T stands behind the lines
 name : (c : After-put-next)
     → (let w = c.before.before.before.before.before.before.before.before in
-    Written w.write_lines-end.new.0 w.write_lines-end.result (84 ∷ []) c.put-next.new.0 c.put-next.result)
+    Written w.write_lines-end.new.out w.write_lines-end.result (84 ∷ []) c.put-next.new.out c.put-next.result)
 name c = c.put-next.ensures
 
 pub write_lines-end-requires : goal.write_lines-end-requires

@@ -27,13 +27,13 @@ file s = file_bytes s.args.m s.requires.m_bound.0 s.args.line _ _ _ s.args.has-i
 room : (s : Start) → 0 + length (chained (kinds s.args.has-incurred) (kind_of s)) ≤ length s.args.out.now
 room s = omega (arith, s.requires.incurred_in_bounds, ap length (file s))
 
-first : (c : After-put_kind-second) → let s = c.before.before.before in Filled (kind_of s) s.args.out.now 0 1 c.put_kind-second.new.0 c.put_kind-second.result
+first : (c : After-put_kind-second) → let s = c.before.before.before in Filled (kind_of s) s.args.out.now 0 1 c.put_kind-second.new.out c.put_kind-second.result
 unfolding lent_kind
 first c =
     let s = c.before.before.before in
     filled_next (kind_of s) s.args.out.now 0 (filled_none _ _ _) _ (room s) c.put_kind-second.ensures c.put_kind-second.auto.0
 
-second : (c : After-put_kind-third) → let s = c.before.before.before.before.before.before.before in Filled (kind_of s) s.args.out.now 0 2 c.put_kind-third.new.0 c.put_kind-third.result
+second : (c : After-put_kind-third) → let s = c.before.before.before.before.before.before.before in Filled (kind_of s) s.args.out.now 0 2 c.put_kind-third.new.out c.put_kind-third.result
 unfolding lent_kind
 second c =
     let s = c.before.before.before.before.before.before.before in

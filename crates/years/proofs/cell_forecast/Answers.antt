@@ -68,7 +68,7 @@ module _ (l : At-loop-n) where
   entries u = year_entries a.args.m (at a.args.v.now l.loop-n.n) (weights a (l.loop-n.n + 1)) a.args.p u (l.loop-n.n + 1)
 
 -- the weights of the next year
-weights_are : (c : After-weights) → (let l = c.before.before.before in c.weights.new.0 ≡ weights (a l) (l.loop-n.n + 1))
+weights_are : (c : After-weights) → (let l = c.before.before.before in c.weights.new.s ≡ weights (a l) (l.loop-n.n + 1))
 weights_are c =
     let l = c.before.before.before in
     let b = (a l).args in

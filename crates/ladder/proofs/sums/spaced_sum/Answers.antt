@@ -1,14 +1,14 @@
 -- `spaced_sum` meets its contract: the cells so far are summed. Assumes nothing.
-use mathlib.Core.Path.{◌≡◌, ap}
+use mathlib.Core.Path.{◌≡◌, sym, ◌∙◌}
 use Prim.Native.Nat.{ℕ, ◌+◌, ◌-◌, ◌*◌, ◌≤◌, ◌<◌}
 use native.Mathlib.Omega.{arith}
 use lib.IntN.{ℤ, ◌+ℤ◌}
 use mir.Syntax.{w64}
 use mir.Val.{SFits, to_z, of_z}
 use mir.Facts.{to_z-of_z}
-use Rattle.integers.specs.Sums.{sum}
+use Rattle.integers.specs.Sums.{sum, sum_zero}
 use Rattle.model.specs.Lists.{at}
-use Rattle.rounding.specs.Running.{sum_none, sum_fits, held, sum_more}
+use Rattle.rounding.specs.Running.{sum_fits, sum_add}
 use Rattle.ladder.proofs.sums.spaced_sum.Goals as goal
 use Rattle.ladder.proofs.sums.spaced_sum.Goals.{After-out-1, Start}
 
@@ -32,16 +32,16 @@ module _ (c : After-out-1) where
   k = c.before.before.loop-k.k
 
   added : to_z w64 c.before.before.loop-k.out-bits +ℤ to_z w64 (of_z w64 (number start k)) ≡ sum (k + 1) (number start)
-  added = sum_more k _ c.before.before.loop-k.invariant.1 (part_fits start k (omega arith)) (to_z-of_z {w = w64} (record { sfits = c.out-1.given }))
+  added = sum_add k _ c.before.before.loop-k.invariant.1 (to_z-of_z {w = w64} (record { sfits = c.out-1.given }))
 
 pub returns : goal.returns
 returns c =
     let s = c.before.before in
     let e : c.before.loop-k.k ≡ s.args.n = omega arith in
-    rw e at (held c.before.loop-k.invariant.1 (part_fits s c.before.loop-k.k (omega arith)))
+    rw e at c.before.loop-k.invariant.1
 
 pub loop-k-init : goal.loop-k-init
-loop-k-init c = (omega arith, sum_none _)
+loop-k-init c = (omega arith, sym (sum_zero _))
 
 pub overflow_mul-out : goal.overflow_mul-out
 overflow_mul-out c = omega (arith, place c.before.before c.before.loop-k.k (omega arith))
@@ -65,4 +65,4 @@ pub loop-k-smaller : goal.loop-k-smaller
 loop-k-smaller c = omega arith
 
 pub loop-k-preserved : goal.loop-k-preserved
-loop-k-preserved c = (omega arith, ap (of_z w64) (added c))
+loop-k-preserved c = (omega arith, to_z-of_z (rw (added c) (part_fits (start c) (k c + 1) (omega arith))) ∙ added c)

@@ -17,7 +17,6 @@ use Rattle.ladder.specs.Sums.{Small, latests, a_sums, b_sums}
 use Rattle.ladder.specs.LadderLaws.{at_latests}
 use Rattle.ladder.specs.SumsLaws.{B-first, A-next, B-next, A-small, B-small, column_sum, column_spaced}
 use Rattle.rounding.specs.Words.{fits_abs}
-use Rattle.rounding.specs.Running.{held}
 use Rattle.ladder.proofs.sums.sums.Goals as goal
 use Rattle.ladder.proofs.sums.sums.Goals.{After-latest_sums, After-part-1, After-spaced_sum, Start}
 
@@ -32,9 +31,9 @@ module _ (m : ℕ) (set : List ℤ) (kind : ℕ) (small : Small m (10 ^ 10) (tri
   B-fits : (j : ℕ) → j < m → SFits w64 (B m tri j)
   B-fits j h = fits_abs (omega (arith, B-small m (10 ^ 10) tri small j h))
 
-  A-word : (k : ℕ) → k + 1 < m → {w : ℕ} {x : ℤ} → w ≡ of_z w64 (B m tri k) → SFits w64 x → x ≡ at (latests m tri) (m - 1 - k) → to_z w64 w -ℤ to_z w64 (of_z w64 x) ≡ A m tri (suc k)
+  A-word : (k : ℕ) → k + 1 < m → {w x : ℤ} → w ≡ B m tri k → SFits w64 x → x ≡ at (latests m tri) (m - 1 - k) → w -ℤ to_z w64 (of_z w64 x) ≡ A m tri (suc k)
   A-word k h e f q =
-      ap₂ (λ (x y : ℤ). x -ℤ y) (held e (B-fits k (omega arith))) (to_z-of_z f ∙ q ∙ at_latests m tri small.few (m - 1 - k) (omega arith))
+      ap₂ (λ (x y : ℤ). x -ℤ y) e (to_z-of_z f ∙ q ∙ at_latests m tri small.few (m - 1 - k) (omega arith))
       ∙ A-next m tri k (m - 1 - k) (omega arith)
 
   B-word : (k : ℕ) → k + 1 < m → {x y : ℤ} → x ≡ A m tri (suc k) → SFits w64 y → y ≡ sum (m - 1 - k) (λ i. at set (400 * kind + k + 1 + 20 * i)) → to_z w64 (of_z w64 x) +ℤ to_z w64 (of_z w64 y) ≡ B m tri (suc k)
@@ -71,7 +70,7 @@ module _ (c : After-part-1) where
   k = c.before.before.loop-k.k
 
   abbrev part : ℤ
-  part = to_z w64 c.before.before.loop-k.whole-bits -ℤ to_z w64 (of_z w64 (at summed.latest_sums.last.1.1.1.0 (m - 1 - k)))
+  part = to_z w64 c.before.before.loop-k.whole-bits -ℤ to_z w64 (of_z w64 (at summed.latest_sums.new.latest (m - 1 - k)))
 
   part_is : part ≡ A m t (suc k)
   part_is =
@@ -94,8 +93,8 @@ loop-k-init c =
     let s = c.before.before.before in
     let e : 400 * s.args.kind ≡ 400 * s.args.kind + 0 = omega arith in
     let column = column_sum s.args.set.now s.args.kind s.args.m 0 s.requires.kind_bound.1.few (omega arith) in
-    let first = rw e at c.spaced_sum-whole.ensures ∙ column ∙ sym (B-first s.args.m (triangle_in s.args.kind s.args.set.now)) in
-    (omega arith, s.requires.latest_value.1 ∙ listed_none 20 _ (pos 0), s.requires.latest_value.2 ∙ listed_none 20 _ (pos 0), ap (of_z w64) first)
+    let first = to_z-of_z {w = w64} (record { sfits = c.spaced_sum-whole.type_inv }) ∙ rw e at c.spaced_sum-whole.ensures ∙ column ∙ sym (B-first s.args.m (triangle_in s.args.kind s.args.set.now)) in
+    (omega arith, s.requires.latest_value.1 ∙ listed_none 20 _ (pos 0), s.requires.latest_value.2 ∙ listed_none 20 _ (pos 0), first)
 
 pub spaced_sum-requires : goal.spaced_sum-requires
 spaced_sum-requires c =
@@ -116,7 +115,7 @@ loop-k-preserved c =
     let a = to_z-of_z (overflow_sub-part-in-loop-k-2 d) ∙ part_is d in
     let b = to_z-of_z (overflow_add-whole c) ∙ whole_is c in
     let next = whole_is c ∙ ap (B (m d) (t d)) (sym (add-one (k d))) in
-    (omega arith, listed_next 20 (k d) _ (pos 0) few l.invariant.1 a, listed_next 20 (k d) _ (pos 0) few l.invariant.2 b, ap (of_z w64) next)
+    (omega arith, listed_next 20 (k d) _ (pos 0) few l.invariant.1 a, listed_next 20 (k d) _ (pos 0) few l.invariant.2 b, to_z-of_z (overflow_add-whole c) ∙ next)
 
 pub returns : goal.returns
 unfolding a_sums b_sums

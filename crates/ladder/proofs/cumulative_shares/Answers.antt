@@ -47,7 +47,9 @@ module _ (c : After-next_share-arg-in-loop-j-1) where
   abbrev j : ℕ
   j = c.before.before.before.before.loop-j.j - 1
 
-  abbrev inv : invariant-loop start.args.a.now start.args.b.now start.args.m [] 0 c.before.before.before.before.loop-j.g c.before.before.before.before.loop-j.j
+  abbrev inv : (c.before.before.before.before.loop-j.j < start.args.m)
+      × (c.before.before.before.before.loop-j.g ≡ listed_from 20 c.before.before.before.before.loop-j.j start.args.m g)
+      × ((k : ℕ) → c.before.before.before.before.loop-j.j ≤ k → k < start.args.m → bounded (g k) ≡ true)
   inv = c.before.before.before.before.loop-j.invariant
 
   after : suc j ≡ c.before.before.before.before.loop-j.j
@@ -80,16 +82,16 @@ share_is c =
 
 pub returns-in_default : goal.returns-in_default
 returns-in_default c =
-    let n = c.before.before.before in
+    let n = c.before in
     let b = n.before in
-    let no = every_no (λ k. bounded (g b k)) (start b).args.m (j b) (omega (arith, (inv b).0)) (outside_is (g b (j b)) (sym (share_is n) ∙ c.before.enum_told-1.given.1)) in
+    let no = every_no (λ k. bounded (g b k)) (start b).args.m (j b) (omega (arith, (inv b).0)) (outside_is (g b (j b)) (sym (share_is n) ∙ c.in_default.is)) in
     record { answer = sym no; listed_all = λ e. absurd (false≢true e) }
 
 pub loop-j-preserved : goal.loop-j-preserved
 loop-j-preserved c =
-    let n = c.before.before.before.before in
+    let n = c.before in
     let b = n.before in
-    let told = inside_is (g b (j b)) c.before.before.v-1.given.0.0 (sym (share_is n) ∙ c.before.before.v-1.given.1) in
+    let told = inside_is (g b (j b)) c.in-Inside.v (sym (share_is n) ∙ c.in-Inside.is) in
     let fits : SFits w64 (g b (j b)) = fits_abs (omega (arith, (bounds_abs (g b (j b)) (bounded_so (g b (j b)) told.1)).2)) in (
       omega (arith, (inv b).0),
       from_next 20 (start b).args.m (g b) (j b) (omega (arith, (start b).requires.0.few, (inv b).0)) (omega (arith, (inv b).0))
@@ -139,10 +141,10 @@ pub bounds-b-j : goal.bounds-b-j
 bounds-b-j c = omega (arith, c.before.before.before.before.requires.0.few)
 
 pub offset_bounds-g-j-in-loop-j-2 : goal.offset_bounds-g-j-in-loop-j-2
-offset_bounds-g-j-in-loop-j-2 c = let b = c.before.before.before.before.before in omega (arith, (start b).requires.0.few, (inv b).0)
+offset_bounds-g-j-in-loop-j-2 c = let b = c.before.before in omega (arith, (start b).requires.0.few, (inv b).0)
 
 pub bounds-g-j-in-loop-j-2 : goal.bounds-g-j-in-loop-j-2
-bounds-g-j-in-loop-j-2 c = let b = c.before.before.before.before.before in omega (arith, (start b).requires.0.few, (inv b).0)
+bounds-g-j-in-loop-j-2 c = let b = c.before.before in omega (arith, (start b).requires.0.few, (inv b).0)
 
 pub loop-j-smaller : goal.loop-j-smaller
 loop-j-smaller c = omega arith

@@ -13,18 +13,12 @@ use Rattle.integers.specs.Parts.{◌⩽◌, ◌⋖◌, ints}
 use Rattle.integers.specs.Order.{lt_yes, lt_no, nat_abs-≤}
 use Rattle.model.specs.Rounding.{r}
 use Rattle.model.specs.QuestionsLaws.{within_yes, below_no, above_no}
+use Rattle.arithmetic.specs.declared.Capped.TheVariants.{Within}
 use Rattle.arithmetic.specs.Capped.{capped, within_is, over_is}
 use Rattle.rounding.specs.Words.{fits_abs}
 use Rattle.ladder.specs.Ladder.{bounded, share_in}
 use Rattle.ladder.proofs.next_share.Goals as goal
-use Rattle.ladder.proofs.next_share.Lts as lts
-use Rattle.ladder.proofs.next_share.Tie as tie
-use Rattle.ladder.proofs.next_share.Reads as reads
 use Rattle.ladder.proofs.next_share.Goals.{After-mul_div_capped}
-
--- the places, as the steps before a goal know them
-abbrev In-Within-2 : Type 0
-In-Within-2 = lts.After-v tie.the-claims reads.Pre reads.Post
 
 too_far : (z : ℤ) → 4 * 10 ^ 9 < nat_abs z → bounded z ≡ false
 too_far (pos n) h = above_no (pos (10 ^ 6)) (pos (4 * 10 ^ 9)) (pos n) (omega (arith, ints))
@@ -38,12 +32,11 @@ module _ (c : After-mul_div_capped) where
   answer = rw (to_z-of_z c.before.ranges.g, to_z-of_z c.before.ranges.a, to_z-of_z c.before.ranges.b) at c.mul_div_capped.ensures
 
 -- the number that the match takes out is the share
-module _ (c : In-Within-2) where
-  told : (share c.before.before ≡ c.v-1.given.0.0) × (nat_abs (share c.before.before) ≤ 4 * 10 ^ 9)
-  told = within_is (4 * 10 ^ 9) (share c.before.before) c.v-1.given.0.0 (sym (answer c.before.before) ∙ c.v-1.given.1)
+told : (s v : ℤ) → capped (4 * 10 ^ 9) s ≡ Within v → (s ≡ v) × (nat_abs s ≤ 4 * 10 ^ 9)
+told s v e = within_is (4 * 10 ^ 9) s v e
 
-  read : to_z w64 (of_z w64 c.v-1.given.0.0) ≡ share c.before.before
-  read = rw (← told.0) (to_z-of_z (fits_abs (omega (arith, told.1))))
+read : {s v : ℤ} → (s ≡ v) × (nat_abs s ≤ 4 * 10 ^ 9) → to_z w64 (of_z w64 v) ≡ s
+read t = rw (← t.0) (to_z-of_z (fits_abs (omega (arith, t.1))))
 
 pub mul_div_capped-requires : goal.mul_div_capped-requires
 mul_div_capped-requires c = rw (to_z-of_z c.ranges.g, to_z-of_z c.ranges.a, to_z-of_z c.ranges.b) (omega arith, omega arith, c.requires.2, omega arith, omega arith)
@@ -51,21 +44,23 @@ mul_div_capped-requires c = rw (to_z-of_z c.ranges.g, to_z-of_z c.ranges.a, to_z
 pub returns-in_default : goal.returns-in_default
 unfolding share_in
 returns-in_default c =
-    let b = c.before.before.before in
-    rw (too_far (share b) (over_is (4 * 10 ^ 9) (share b) (sym (answer b) ∙ c.before.enum_told-1.given.1)))
+    let b = c.before in
+    rw (too_far (share b) (over_is (4 * 10 ^ 9) (share b) (sym (answer b) ∙ c.in_default.is)))
 
 pub returns-then-v-lt-LEAST : goal.returns-then-v-lt-LEAST
 unfolding share_in
 returns-then-v-lt-LEAST c =
     let b = c.before.before in
-    let z : ℤ = share b.before.before in
-    let h : z ⋖ pos (10 ^ 6) = lt_yes (rw (read b) at c.if-v-lt-LEAST.true) in
+    let t = told (share b) c.in-Within.v (sym (answer b) ∙ c.in-Within.is) in
+    let z : ℤ = share b in
+    let h : z ⋖ pos (10 ^ 6) = lt_yes (rw (read t) at c.if-v-lt-LEAST.true) in
     rw (below_no (pos (10 ^ 6)) (pos (4 * 10 ^ 9)) z h)
 
 pub returns : goal.returns
 unfolding share_in
 returns c =
     let b = c.before.before in
-    let z : ℤ = share b.before.before in
-    let h : pos (10 ^ 6) ⩽ z = lt_no (rw (read b) at c.if-v-lt-LEAST.false) in
-    rw (read b, within_yes (pos (10 ^ 6)) (pos (4 * 10 ^ 9)) z h (nat_abs-≤.0 (told b).1).0)
+    let t = told (share b) c.in-Within.v (sym (answer b) ∙ c.in-Within.is) in
+    let z : ℤ = share b in
+    let h : pos (10 ^ 6) ⩽ z = lt_no (rw (read t) at c.if-v-lt-LEAST.false) in
+    rw (read t, within_yes (pos (10 ^ 6)) (pos (4 * 10 ^ 9)) z h (nat_abs-≤.0 t.1).0)

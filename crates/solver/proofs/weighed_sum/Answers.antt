@@ -1,5 +1,5 @@
 -- `weighed_sum` meets its contract: the products so far are summed. Assumes nothing.
-use mathlib.Core.Path.{◌≡◌, ◌∙◌, ap}
+use mathlib.Core.Path.{◌≡◌, sym, ◌∙◌, ap}
 use mathlib.Core.List.{List}
 use Prim.Native.Nat.{ℕ, suc, ◌+◌, ◌-◌, ◌≤◌}
 use native.Mathlib.Omega.{arith}
@@ -98,4 +98,4 @@ pub loop-k-smaller : goal.loop-k-smaller
 loop-k-smaller c = omega arith
 
 pub loop-k-preserved : goal.loop-k-preserved
-loop-k-preserved c = (omega (arith, begun c), omega (arith, inside c), to_z-of_z (rw (added c) (sum_fits (k c + 1 - first c) (start c).requires (omega (arith, inside c)))) ∙ added c)
+loop-k-preserved c = (omega (arith, begun c), omega (arith, inside c), to_z-of_z {w = w64} (rw (added c) (sum_fits (k c + 1 - first c) (start c).requires (omega (arith, inside c)))) ∙ added c)

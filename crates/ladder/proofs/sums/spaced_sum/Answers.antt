@@ -65,4 +65,4 @@ pub loop-k-smaller : goal.loop-k-smaller
 loop-k-smaller c = omega arith
 
 pub loop-k-preserved : goal.loop-k-preserved
-loop-k-preserved c = (omega arith, to_z-of_z (rw (added c) (part_fits (start c) (k c + 1) (omega arith))) ∙ added c)
+loop-k-preserved c = (omega arith, to_z-of_z {w = w64} (rw (added c) (part_fits (start c) (k c + 1) (omega arith))) ∙ added c)

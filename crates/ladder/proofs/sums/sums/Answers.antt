@@ -115,7 +115,7 @@ loop-k-preserved c =
     let a = to_z-of_z (overflow_sub-part-in-loop-k-2 d) ∙ part_is d in
     let b = to_z-of_z (overflow_add-whole c) ∙ whole_is c in
     let next = whole_is c ∙ ap (B (m d) (t d)) (sym (add-one (k d))) in
-    (omega arith, listed_next 20 (k d) _ (pos 0) few l.invariant.1 a, listed_next 20 (k d) _ (pos 0) few l.invariant.2 b, to_z-of_z (overflow_add-whole c) ∙ next)
+    (omega arith, listed_next 20 (k d) _ (pos 0) few l.invariant.1 a, listed_next 20 (k d) _ (pos 0) few l.invariant.2 b, to_z-of_z {w = w64} (overflow_add-whole c) ∙ next)
 
 pub returns : goal.returns
 unfolding a_sums b_sums

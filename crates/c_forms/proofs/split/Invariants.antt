@@ -18,7 +18,7 @@ abbrev pub ratio_at : List YearInflation → ℕ → Float
 ratio_at list k = ratio_of (inflation_at list k)
 
 abbrev pub invariant-loop-k : goal.invariant-loop-k
-invariant-loop-k l = (l.k ≤ 20) × (l.kinds ≡ listed 20 l.k (kind_at l.initial.ratios) 0) × (l.ratios ≡ listed 20 l.k (ratio_at l.initial.ratios) no_float)
+invariant-loop-k l = (l.k ≤ 20) × (l.kinds ≡ listed 20 l.k (kind_at l.inflations) 0) × (l.ratios ≡ listed 20 l.k (ratio_at l.inflations) no_float)
 
 abbrev pub decreases-loop-k : goal.decreases-loop-k
 decreases-loop-k l = 20 - l.k

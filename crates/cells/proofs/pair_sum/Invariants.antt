@@ -17,7 +17,7 @@ use Rattle.cells.specs.PairLaws.{term, term_in, term_no, term_before, sum_small,
 use Rattle.cells.proofs.pair_sum.Given as goal
 
 abbrev pub invariant-loop-k : goal.invariant-loop-k
-invariant-loop-k l = (l.j < l.k + l.m) × (l.sum ≡ sum l.k (term l.m l.j (λ l.k. leb l.k l.n) l.x l.p))
+invariant-loop-k l = (l.j < l.k + l.m) × (l.sum ≡ sum l.k (term l.m l.j (λ i. leb i l.n) l.x l.p))
 
 abbrev pub decreases-loop-k : goal.decreases-loop-k
 decreases-loop-k l = l.n + 1 - l.k

@@ -13,7 +13,7 @@ abbrev pub zeros : ℕ → List ℤ
 zeros k = tabulate k (λ _. pos 0)
 
 abbrev pub invariant-loop-k : goal.invariant-loop-k
-invariant-loop-k l = (l.k ≤ l.initial.out) × (l.out ≡ overlay l.from l.n (zeros l.k))
+invariant-loop-k l = (l.k ≤ l.n) × (l.out ≡ overlay l.initial.out l.from (zeros l.k))
 
 abbrev pub decreases-loop-k : goal.decreases-loop-k
-decreases-loop-k l = l.initial.out - l.k
+decreases-loop-k l = l.n - l.k

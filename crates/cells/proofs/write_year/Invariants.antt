@@ -14,7 +14,7 @@ use Rattle.cells.specs.EntryLaws.{known_entries, length_entries, overlay_over, t
 use Rattle.cells.proofs.write_year.Given as goal
 
 abbrev pub invariant-loop-j : goal.invariant-loop-j
-invariant-loop-j l = (l.i + 1 - l.first ≤ l.j) × (l.j ≤ 2 * l.i - 1) × (l.out ≡ overlay l.from l.v (first_entries l.i (to_z w64 l.basis) l.p l.m l.s l.first (2 * l.j)))
+invariant-loop-j l = (l.m + 1 - l.i ≤ l.j) × (l.j ≤ 2 * l.m - 1) × (l.out ≡ overlay l.initial.out l.from (first_entries l.m l.v l.s l.p l.unreported l.i (2 * l.j)))
 
 abbrev pub decreases-loop-j : goal.decreases-loop-j
-decreases-loop-j l = 2 * l.i - l.j
+decreases-loop-j l = 2 * l.m - l.j

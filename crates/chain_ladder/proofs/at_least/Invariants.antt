@@ -13,7 +13,7 @@ use Rattle.model.specs.ListsLaws.{every_none, every_more, every_no}
 use Rattle.chain_ladder.proofs.at_least.Given as goal
 
 abbrev pub invariant-loop-k : goal.invariant-loop-k
-invariant-loop-k l = (l.k ≤ l.n) × (every l.k (λ l.k. le_z (to_z w64 l.least) (at l.xs l.k)) ≡ true)
+invariant-loop-k l = (l.k ≤ l.n) × (every l.k (λ i. le_z l.least (at l.xs i)) ≡ true)
 
 abbrev pub decreases-loop-k : goal.decreases-loop-k
 decreases-loop-k l = l.n - l.k

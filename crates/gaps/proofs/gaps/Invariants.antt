@@ -21,7 +21,7 @@ use Rattle.gaps.specs.GapsLaws.{not_compared, listed_skip}
 use Rattle.gaps.proofs.gaps.Given as goal
 
 abbrev pub invariant-loop-k : goal.invariant-loop-k
-invariant-loop-k l = (l.k ≤ l.basis) × (l.d ≡ listed 400 (20 * l.k) (gap_at l.n l.basis (cell_from l.basis (triangle_in 0 l.m) l.shares l.g l.latest l.v l.p l.whole) (triangle_in 1 l.m)) (pos 0)) × (l.unreported ≡ sums_from l.basis (l.basis - l.k) l.g l.whole) × (l.shares ≡ 1 → l.s ≡ l.g)
+invariant-loop-k l = (l.k ≤ l.n) × (l.d ≡ listed 400 (20 * l.k) (gap_at l.m l.n (cell_from l.n (triangle_in 0 l.set) l.basis l.shares l.g l.latest l.v l.p) (triangle_in 1 l.set)) (pos 0)) × (l.unreported ≡ sums_from l.n (l.n - l.k) l.shares l.p) × (l.basis ≡ 1 → l.s ≡ l.shares)
 
 abbrev pub decreases-loop-k : goal.decreases-loop-k
-decreases-loop-k l = l.basis - l.k
+decreases-loop-k l = l.n - l.k

@@ -28,8 +28,8 @@ abbrev pub Row : List ℤ → ℕ → ℕ → ℕ → ℤ → List ℤ → List 
 Row set m n i v u s p f = (j : ℕ) → j < 20 → f (20 * (i - 1) + j) ≡ gap_from m n (cell_of n v s p u i j) (triangle_in 1 set) i j
 
 abbrev pub invariant-loop-j : goal.invariant-loop-j
-invariant-loop-j l = (l.i + 1 - l.v ≤ l.j) × (l.j ≤ 20)
-    × ((f : ℕ → ℤ) → l.set ≡ listed 400 (20 * (l.v - 1)) f (pos 0) → Row l.m l.n l.i l.v (to_z w64 l.basis) l.s l.p l.end f → l.d ≡ listed 400 (20 * (l.v - 1) + l.j) f (pos 0))
+invariant-loop-j l = (l.n + 1 - l.i ≤ l.j) × (l.j ≤ 20)
+    × ((f : ℕ → ℤ) → l.initial.d ≡ listed 400 (20 * (l.i - 1)) f (pos 0) → Row l.set l.m l.n l.i l.v l.unreported l.s l.p f → l.d ≡ listed 400 (20 * (l.i - 1) + l.j) f (pos 0))
 
 abbrev pub decreases-loop-j : goal.decreases-loop-j
 decreases-loop-j l = 20 - l.j

@@ -18,7 +18,7 @@ use Rattle.page_text.specs.PageLaws.{LineFits, page_next, aligned_length, amount
 use Rattle.page_text.proofs.write_years.Given as goal
 
 abbrev pub invariant-loop-k : goal.invariant-loop-k
-invariant-loop-k l = (l.k ≤ l.rbns) × (l.end ≡ l.n + 68 * l.k) × Written l.start l.n (lines page_line (tally_in l.ibnr l.initial.out) l.k) l.out l.end
+invariant-loop-k l = (l.k ≤ l.n) × (l.end ≡ l.start + 68 * l.k) × Written l.initial.out l.start (lines page_line (tally_in l.rbns l.ibnr) l.k) l.out l.end
 
 abbrev pub decreases-loop-k : goal.decreases-loop-k
-decreases-loop-k l = l.rbns - l.k
+decreases-loop-k l = l.n - l.k

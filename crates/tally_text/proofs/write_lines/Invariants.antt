@@ -11,7 +11,7 @@ use Rattle.tally_text.specs.TallyTextLaws.{lines_none, text_next, next_room}
 use Rattle.tally_text.proofs.write_lines.Given as goal
 
 abbrev pub invariant-loop-k : goal.invariant-loop-k
-invariant-loop-k l = (l.k ≤ l.rbns) × Written l.n 0 (lines line (tally_in l.ibnr l.initial.out) l.k) l.out l.end
+invariant-loop-k l = (l.k ≤ l.n) × Written l.initial.out 0 (lines line (tally_in l.rbns l.ibnr) l.k) l.out l.end
 
 abbrev pub decreases-loop-k : goal.decreases-loop-k
-decreases-loop-k l = l.rbns - l.k
+decreases-loop-k l = l.n - l.k

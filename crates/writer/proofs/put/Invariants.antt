@@ -10,7 +10,7 @@ use Rattle.model.specs.Overlay.{overlay}
 use Rattle.writer.proofs.put.Given as goal
 
 abbrev pub invariant-loop-k : goal.invariant-loop-k
-invariant-loop-k l = (l.k ≤ 16) × (l.out ≡ paste l.a l.bytes l.initial.out l.k) × (length l.out ≡ length l.a)
+invariant-loop-k l = (l.k ≤ 16) × (l.out ≡ paste l.initial.out l.a l.bytes l.k) × (length l.out ≡ length l.initial.out)
 
 abbrev pub decreases-loop-k : goal.decreases-loop-k
 decreases-loop-k l = 16 - l.k

@@ -8,7 +8,7 @@ use Rattle.writer.proofs.Chained.{Filled, filled_none, filled_room, filled_next}
 use Rattle.writer.proofs.put_kind.Given as goal
 
 abbrev pub invariant-loop-k : goal.invariant-loop-k
-invariant-loop-k l = (l.k ≤ l.line) × Filled (λ l.k. year_bytes l.kind l.cells l.initial.out (suc l.k) (l.line - l.k)) l.a l.m l.k l.out l.next
+invariant-loop-k l = (l.k ≤ l.m) × Filled (λ i. year_bytes l.line l.kind l.cells (suc i) (l.m - i)) l.initial.out l.a l.k l.out l.next
 
 abbrev pub decreases-loop-k : goal.decreases-loop-k
-decreases-loop-k l = l.line - l.k
+decreases-loop-k l = l.m - l.k

@@ -68,7 +68,7 @@ pub record_bytes-requires : goal.record_bytes-requires
 record_bytes-requires c = (search rules, search rules, omega arith, search rules)
 
 pub overflow_add-next : goal.overflow_add-next
-overflow_add-next c = omega (arith, put_requires c.before.before.before.before c.before.before.before.put.lifetimes)
+overflow_add-next c = omega (arith, length_record c.args.kind c.args.year c.loop-j.j c.args.line (word (cell c.args.cells.now c.args.year c.loop-j.j)), filled_room _ _ _ c.loop-j.invariant.1 c.args.n c.requires.n_in_bounds (omega (arith, c.loop-j-test.true)))
 
 pub overflow_add-j : goal.overflow_add-j
 overflow_add-j c = omega arith

@@ -12,7 +12,7 @@ use Rattle.writer.proofs.Chained.{Filled, filled_room, filled_none, filled_next}
 use Rattle.writer.proofs.put_year.Given as goal
 
 abbrev pub invariant-loop-j : goal.invariant-loop-j
-invariant-loop-j l = (l.j ≤ l.initial.out) × Filled (cell_bytes l.kind l.cells l.year l.n) l.a l.line l.j l.out l.next
+invariant-loop-j l = (l.j ≤ l.n) × Filled (cell_bytes l.line l.kind l.cells l.year) l.initial.out l.a l.j l.out l.next
 
 abbrev pub decreases-loop-j : goal.decreases-loop-j
-decreases-loop-j l = l.initial.out - l.j
+decreases-loop-j l = l.n - l.j

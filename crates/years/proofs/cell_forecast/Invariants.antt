@@ -20,7 +20,7 @@ use Rattle.years.specs.YearsLaws.{year_inside, all_inside, no_years, length_year
 use Rattle.years.proofs.cell_forecast.Given as goal
 
 abbrev pub invariant-loop-n : goal.invariant-loop-n
-invariant-loop-n l = (l.n ≤ l.basis) × (l.out ≡ overlay l.m 0 (years_entries l.basis l.p (year_weights l.basis (triangle_in 0 l.shares) l.set l.g l.latest l.v) l.g l.whole l.n)) × (l.unreported ≡ sums_from l.basis (l.basis - l.n) l.g l.whole) × (l.set ≡ 1 → l.s ≡ l.g)
+invariant-loop-n l = (l.n ≤ l.m) × (l.out ≡ overlay l.initial.out 0 (years_entries l.m l.v (year_weights l.m (triangle_in 0 l.set) l.basis l.shares l.g l.latest) l.shares l.p l.n)) × (l.unreported ≡ sums_from l.m (l.m - l.n) l.shares l.p) × (l.basis ≡ 1 → l.s ≡ l.shares)
 
 abbrev pub decreases-loop-n : goal.decreases-loop-n
-decreases-loop-n l = l.basis - l.n
+decreases-loop-n l = l.m - l.n

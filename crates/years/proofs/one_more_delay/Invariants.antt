@@ -17,7 +17,7 @@ use Rattle.cells.specs.SumsFromLaws.{partly, start, added, next, all}
 use Rattle.years.proofs.one_more_delay.Given as goal
 
 abbrev pub invariant-loop-l : goal.invariant-loop-l
-invariant-loop-l l = (l.l ≤ l.k) × (l.sums ≡ partly l.k l.share l.p l.m l.l)
+invariant-loop-l l = (l.l ≤ l.m) × (l.sums ≡ partly l.m l.k l.b l.p l.l)
 
 abbrev pub decreases-loop-l : goal.decreases-loop-l
-decreases-loop-l l = l.k - l.l
+decreases-loop-l l = l.m - l.l

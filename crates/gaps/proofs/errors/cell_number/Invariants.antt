@@ -8,7 +8,7 @@ use Rattle.gaps.specs.ErrorsLaws.{total_none, total_more, twenty}
 use Rattle.gaps.proofs.errors.cell_number.Given as goal
 
 abbrev pub invariant-loop-k : goal.invariant-loop-k
-invariant-loop-k l = (l.k ≤ l.last) × (l.last ≤ 20) × (l.last ≤ l.n - 1) × (l.out ≡ total l.k (λ l.k. l.n - suc l.k))
+invariant-loop-k l = (l.k ≤ l.last) × (l.last ≤ 20) × (l.last ≤ l.n - 1) × (l.out ≡ total l.k (λ i. l.n - suc i))
 
 abbrev pub decreases-loop-k : goal.decreases-loop-k
 decreases-loop-k l = l.last - l.k

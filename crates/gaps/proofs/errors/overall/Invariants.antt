@@ -17,7 +17,7 @@ use Rattle.gaps.specs.ErrorsLaws.{all_small}
 use Rattle.gaps.proofs.errors.overall.Given as goal
 
 abbrev pub invariant-loop-k : goal.invariant-loop-k
-invariant-loop-k l = (l.k ≤ l.n) × (l.out ≡ (sum l.k (λ l.k. sum l.n (λ j. cell l.d (suc l.k) j))))
+invariant-loop-k l = (l.k ≤ l.n) × (l.out ≡ (sum l.k (λ i. sum l.n (λ j. cell l.d (suc l.k) j))))
 
 abbrev pub decreases-loop-k : goal.decreases-loop-k
 decreases-loop-k l = l.n - l.k

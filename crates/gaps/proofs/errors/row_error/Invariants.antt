@@ -12,7 +12,7 @@ use Rattle.gaps.specs.ErrorsLaws.{total_none, total_more, row_small}
 use Rattle.gaps.proofs.errors.row_error.Given as goal
 
 abbrev pub invariant-loop-j : goal.invariant-loop-j
-invariant-loop-j l = (l.j ≤ l.n) × (l.out ≡ total l.j (λ l.j. nat_abs (cell l.d (suc l.k) l.j)))
+invariant-loop-j l = (l.j ≤ l.n) × (l.out ≡ total l.j (λ i. nat_abs (cell l.d (suc l.k) l.j)))
 
 abbrev pub decreases-loop-j : goal.decreases-loop-j
 decreases-loop-j l = l.n - l.j

@@ -16,7 +16,7 @@ use Rattle.gaps.specs.ErrorsLaws.{row_gap_small}
 use Rattle.gaps.proofs.errors.row_gap.Given as goal
 
 abbrev pub invariant-loop-j : goal.invariant-loop-j
-invariant-loop-j l = (l.j ≤ l.n) × (l.out ≡ (sum l.j (λ l.j. cell l.d (suc l.k) l.j)))
+invariant-loop-j l = (l.j ≤ l.n) × (l.out ≡ (sum l.j (λ i. cell l.d (suc l.k) i)))
 
 abbrev pub decreases-loop-j : goal.decreases-loop-j
 decreases-loop-j l = l.n - l.j

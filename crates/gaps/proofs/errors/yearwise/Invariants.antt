@@ -14,7 +14,7 @@ use Rattle.gaps.specs.ErrorsLaws.{total_none, total_more, gap_small, years_small
 use Rattle.gaps.proofs.errors.yearwise.Given as goal
 
 abbrev pub invariant-loop-k : goal.invariant-loop-k
-invariant-loop-k l = (l.k ≤ l.c) × (l.out ≡ total l.k (λ l.k. nat_abs (year_gap l.n (cell l.d) (suc l.k))))
+invariant-loop-k l = (l.k ≤ l.c) × (l.out ≡ total l.k (λ i. nat_abs (year_gap l.n (cell l.d) (suc l.k))))
 
 abbrev pub decreases-loop-k : goal.decreases-loop-k
 decreases-loop-k l = l.c - l.k

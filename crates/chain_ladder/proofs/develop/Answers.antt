@@ -77,7 +77,7 @@ module _ (c : After-sums) where
         b_is = c.sums.ensures.b_after;
       }
 
-answer_9 : (c : After-at_least) → c.at_least.result ≡ q9 (m c.before.before) (counts c.before.before)
+answer_9 : (c : After-at_least) → c.at_least.result ≡ q9 (m c.before) (counts c.before)
 answer_9 c = let b = c.before.before in rw (counts_summed b).latest_is at c.at_least.ensures ∙ asked_9 (m b) (counts b) (counts_ok b)
 
 -- ---- the sums of paid, and question 10
@@ -86,7 +86,7 @@ module _ (c : After-sums-2) where
   else1 = c.before.before.before.before
 
   abbrev one : After-sums
-  one = else1.before.before.before
+  one = else1.before.before
 
   yes_9 : q9 (m one) (counts one) ≡ true
   yes_9 = sym (answer_9 else1.before) ∙ not-false _ else1.if-not-at_least.false-raw
@@ -182,7 +182,7 @@ pub sums-requires : goal.sums-requires
 sums-requires c = let s = c.before.before.before in record { kind_bound = (omega arith, counts_sized s.args.m (triangle_in 0 s.args.set.now) s.requires.amounts.0); latest_value = (s.requires.count_latest_value.0, refl, refl) }
 
 pub at_least-requires : goal.at_least-requires
-at_least-requires c = (counts_ok c.before.before).small.few
+at_least-requires c = (counts_ok c.before).small.few
 
 pub sums-requires-2 : goal.sums-requires-2
 sums-requires-2 c = let b = c.before.before.before.before.before.before.before in record { kind_bound = (omega arith, (paid_ok b).small); latest_value = ((start b).requires.count_latest_value.2, refl, refl) }

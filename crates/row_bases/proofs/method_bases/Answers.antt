@@ -87,7 +87,7 @@ returns c like =
     }
 
 -- the sizes that the bases ask
-sized : (c : After-ultimates-u) → let b = base c in AllSizes (m b) (start b).args.method c.ultimates-u.result (start b).args.paid-latest.now b.incurred_under.new.w
+sized : (c : After-ultimates-u) → let b = base c in AllSizes (m b) (start b).args.method c.ultimates-u.result (start b).args.paid_latest.now b.incurred_under.new.w
 sized c =
     let b = base c in
     all_sizes (m b) (s b no_set) (start b).args.method (start b).requires.asked b.incurred_under.ensures (yes_13 (two c)) (u_is c) (start b).requires.ladder.0.latest_is
@@ -96,7 +96,7 @@ pub incurred_under-requires : goal.incurred_under-requires
 incurred_under-requires c = let p = c.before.requires.asked in ((let l = p.shared.counts.least in omega arith), p.incurred, refl)
 
 pub ultimates-u-requires : goal.ultimates-u-requires
-ultimates-u-requires c = let p = (start (one c.before)).requires in ladder_ready p.1.0 (paid_ready p.0.shared)
+ultimates-u-requires c = let p = (start (one c.before)).requires in ladder_ready p.ladder.0 (paid_ready p.asked.shared)
 
 pub row_bases-requires : goal.row_bases-requires
 row_bases-requires c = let t = c.before.before.before in let l = (start (base t)).requires.asked.shared.counts.least in (omega arith, few (base t), sized t, (start (base t)).requires.ladder.1)

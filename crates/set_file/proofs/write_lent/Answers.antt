@@ -25,7 +25,7 @@ size : (c : Else-not-q1) → q1 c.before.before.before.args.m ≡ true
 size c = passed c.if-not-q1.false-raw c.before.q1.ensures
 
 -- question 5 had a yes
-ranges : (c : Else-not-set_ok) → let s = c.before.before.before.before.before.before.args in q5_writer s.m s.has-incurred s.counts.now s.paid.now s.incurred.now ≡ true
+ranges : (c : Else-not-set_ok) → let s = c.before.before.before.before.before.before.args in q5_writer s.m s.has_incurred s.counts.now s.paid.now s.incurred.now ≡ true
 ranges c = passed c.if-not-set_ok.false-raw c.before.set_ok.ensures
 
 pub returns-then-not-q1 : goal.returns-then-not-q1
@@ -43,7 +43,7 @@ pub overflow_mul-set_records : goal.overflow_mul-set_records
 overflow_mul-set_records c =
     let d = c.before.before in
     let e = d.before.before in
-    omega (arith, set_most _ e.before.before.before.before.args.has-incurred (size_so _ (size e.before)).1, c.before.set_records.ensures)
+    omega (arith, set_most _ e.before.before.before.before.args.has_incurred (size_so _ (size e.before)).1, c.before.set_records.ensures)
 
 pub returns-then-out-set_records : goal.returns-then-out-set_records
 returns-then-out-set_records c =
@@ -57,7 +57,7 @@ put_set-requires c =
     let d = f.before.before in
     let e = d.before.before in
     let s = e.before.before.before.before.args in
-    let y = size e.before in record { m_bound = ((size_so _ y).1, e.if-line-gt5.false); incurred_in_bounds = omega (arith, f.if-out-set_records.false, f.before.set_records.ensures, length_file s.m s.line s.counts.now s.paid.now s.incurred.now y s.has-incurred) }
+    let y = size e.before in record { m_bound = ((size_so _ y).1, e.if-line-gt5.false); incurred_in_bounds = omega (arith, f.if-out-set_records.false, f.before.set_records.ensures, length_file s.m s.line s.counts.now s.paid.now s.incurred.now y s.has_incurred) }
 
 pub returns : goal.returns
 returns c =

@@ -9,10 +9,6 @@ use lib.ListN.{length, length-set}
 use lib.Seq.{paste, paste-zero, paste-suc, take_all}
 use Rattle.model.specs.Overlay.{overlay}
 use Rattle.writer.proofs.put.Goals as goal
-use Rattle.writer.proofs.put.Goals.{Start}
-
-sixteen : (c : Start) → length c.args.bytes ≡ 16
-sixteen c = search rules
 
 whole : (d : List ℕ) (a : ℕ) (s : List ℕ) (k : ℕ) → k ≡ 16 → length s ≡ 16 → paste d a s k ≡ overlay d a s
 unfolding overlay
@@ -21,7 +17,7 @@ whole d a s k e l = rw (e, l, take_all 16 s (omega arith))
 pub loop-k-preserved : goal.loop-k-preserved
 loop-k-preserved c =
     let s = c.before.before in
-    let l = sixteen s in (
+    let l : length c.args.bytes ≡ 16 = search rules in (
       omega arith,
       rw (c.before.loop-k.invariant.1, add-one)
           (paste-suc s.args.out.now s.args.a s.args.bytes c.before.loop-k.k 0 (omega arith) (omega arith)),
@@ -31,7 +27,8 @@ loop-k-preserved c =
 pub returns : goal.returns
 returns c =
     let e : c.before.loop-k.k ≡ 16 = omega arith in
-    c.before.loop-k.invariant.1 ∙ whole _ _ _ _ e (sixteen c.before.before)
+    let l : length c.args.bytes ≡ 16 = search rules in
+    c.before.loop-k.invariant.1 ∙ whole _ _ _ _ e l
 
 pub loop-k-init : goal.loop-k-init
 loop-k-init c = (search rules, paste-zero c.args.out.now c.args.a c.args.bytes, refl)

@@ -21,7 +21,7 @@ loop-k-preserved c =
     let w = c.before.before.before in
     let l = w.before.before.before.loop-k in
     let s = w.before.before.before.before.before in
-    (omega arith, filled_next _ _ _ l.invariant.1 s.args.m s.requires.cells_in_bounds (rw add-one at w.put_year-next.ensures) w.put_year-next.auto.0)
+    (omega arith, filled_next _ _ _ l.invariant.1 s.args.m s.requires.cells_in_bounds (rw add-one at w.put_year-next.ensures.value, rw add-one at w.put_year-next.ensures.out_after) w.put_year-next.auto.out)
 
 pub returns : goal.returns
 unfolding kind_bytes

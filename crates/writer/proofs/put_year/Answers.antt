@@ -36,7 +36,7 @@ loop-j-preserved c =
     let e = b.record_bytes.ensures ∙ ap (record_of s.args.kind s.args.year l.j s.args.line) (b.before.to_word.ensures ∙ ap word (to_z-of_z {w = w64} (record { sfits = v.v-1.given }))) in (
       omega arith,
       filled_next _ _ _ l.invariant.1 s.args.n s.requires.n_in_bounds
-          (ap (λ (n : ℕ). l.next + n) (sym (length_record _ _ _ _ _)), w.put.ensures ∙ ap (overlay l.out-1 l.next) e) w.put.auto.0,
+          (ap (λ (n : ℕ). l.next + n) (sym (length_record _ _ _ _ _)), w.put.ensures ∙ ap (overlay l.out l.next) e) w.put.auto.out,
     )
 
 pub returns : goal.returns
@@ -68,6 +68,7 @@ pub record_bytes-requires : goal.record_bytes-requires
 record_bytes-requires c = (search rules, search rules, omega arith, search rules)
 
 pub overflow_add-next : goal.overflow_add-next
+unfolding year_bytes
 overflow_add-next c = omega (arith, length_record c.args.kind c.args.year c.loop-j.j c.args.line (word (cell c.args.cells.now c.args.year c.loop-j.j)), filled_room _ _ _ c.loop-j.invariant.1 c.args.n c.requires.n_in_bounds (omega (arith, c.loop-j-test.true)))
 
 pub overflow_add-j : goal.overflow_add-j

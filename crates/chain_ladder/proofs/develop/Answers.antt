@@ -78,7 +78,7 @@ module _ (c : After-sums) where
       }
 
 answer_9 : (c : After-at_least) → c.at_least.result ≡ q9 (m c.before) (counts c.before)
-answer_9 c = let b = c.before.before in rw (counts_summed b).latest_is at c.at_least.ensures ∙ asked_9 (m b) (counts b) (counts_ok b)
+answer_9 c = let b = c.before in rw (counts_summed b).latest_is at c.at_least.ensures ∙ asked_9 (m b) (counts b) (counts_ok b)
 
 -- ---- the sums of paid, and question 10
 module _ (c : After-sums-2) where
@@ -144,7 +144,7 @@ module _ (c : After-cumulative_shares-2) where
 
 pub returns-then-not-at_least : goal.returns-then-not-at_least
 returns-then-not-at_least c =
-    let b = c.before.before.before in
+    let b = c.before.before in
     refused (first_9 (m b) (counts b) (paid b) (sym (answer_9 c.before) ∙ not-true _ c.if-not-at_least.true-raw))
 
 pub returns-then-not-at_least-2 : goal.returns-then-not-at_least-2
@@ -185,7 +185,7 @@ pub at_least-requires : goal.at_least-requires
 at_least-requires c = (counts_ok c.before).small.few
 
 pub sums-requires-2 : goal.sums-requires-2
-sums-requires-2 c = let b = c.before.before.before.before.before.before.before in record { kind_bound = (omega arith, (paid_ok b).small); latest_value = ((start b).requires.count_latest_value.2, refl, refl) }
+sums-requires-2 c = let b = c.before.before.before.before.before.before in record { kind_bound = (omega arith, (paid_ok b).small); latest_value = ((start b).requires.count_latest_value.2, refl, refl) }
 
 pub overflow_sub-m : goal.overflow_sub-m
 overflow_sub-m c = (paid_summed c.before.before).some

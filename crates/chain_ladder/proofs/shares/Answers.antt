@@ -7,7 +7,7 @@ returns c =
     let w = c.before.before.before in
     let s = w.before.before.before.before.before.before.before in
     let e = w.shares_into-refusal.ensures in
-    shares_whole s.args.m s.args.file.now e.value c.before.Store-Line.ensures e.b_after e.n_after e.q_after e.g_after e.u_after
+    shares_whole s.args.m s.args.file.now e.value c.before.store_line.ensures e.b_after e.n_after e.q_after e.g_after e.u_after
 
 pub shares_into-refusal-requires : goal.shares_into-refusal-requires
 shares_into-refusal-requires c = tt

@@ -6,7 +6,7 @@ pub returns : goal.returns
 returns c =
     let w = c.before.before.before in
     let a = w.before.before.before.args in
-    as_checked a.m a.file.now w.file_delays-refusal.ensures c.before.Store-Line.ensures
+    as_checked a.m a.file.now w.file_delays-refusal.ensures c.before.store_line.ensures
 
 pub file_delays-refusal-requires : goal.file_delays-refusal-requires
 file_delays-refusal-requires c = tt

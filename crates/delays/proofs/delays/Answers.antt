@@ -6,7 +6,7 @@ pub returns : goal.returns
 returns c =
     let w = c.before.before.before in
     let s = w.before.before.before in
-    delays_whole s.args.m s.args.file.now w.delays_into-refusal.ensures.value c.before.Store-Line.ensures w.delays_into-refusal.ensures.p_after
+    delays_whole s.args.m s.args.file.now w.delays_into-refusal.ensures.value c.before.store_line.ensures w.delays_into-refusal.ensures.p_after
 
 pub delays_into-refusal-requires : goal.delays_into-refusal-requires
 delays_into-refusal-requires c = tt

@@ -29,15 +29,23 @@ ranges : (c : Else-not-set_ok) → let s = c.before.before.before.before.before.
 ranges c = passed c.if-not-set_ok.false-raw c.before.set_ok.ensures
 
 pub returns-then-not-q1 : goal.returns-then-not-q1
-returns-then-not-q1 c = no_1 _ _ _ _ _ _ _ (refused c.before.if-not-q1.true-raw c.before.before.q1.ensures)
+returns-then-not-q1 c =
+    let a = c.args in
+    let w = no_1 a.m a.line a.has_incurred a.counts.now a.paid.now a.incurred.now a.out.now (refused c.before.if-not-q1.true-raw c.before.before.q1.ensures) in
+    record { value = w.0; out_after = w.1 }
 
 pub returns-then-line-gt5 : goal.returns-then-line-gt5
-returns-then-line-gt5 c = no_3 _ _ _ _ _ _ _ (size c.before.before) c.before.if-line-gt5.true
+returns-then-line-gt5 c =
+    let a = c.args in
+    let w = no_3 a.m a.line a.has_incurred a.counts.now a.paid.now a.incurred.now a.out.now (size c.before.before) c.before.if-line-gt5.true in
+    record { value = w.0; out_after = w.1 }
 
 pub returns-then-not-set_ok : goal.returns-then-not-set_ok
 returns-then-not-set_ok c =
+    let a = c.args in
     let d = c.before.before.before in
-    no_5 _ _ _ _ _ _ _ (size d.before) d.if-line-gt5.false (refused c.before.if-not-set_ok.true-raw c.before.before.set_ok.ensures)
+    let w = no_5 a.m a.line a.has_incurred a.counts.now a.paid.now a.incurred.now a.out.now (size d.before) d.if-line-gt5.false (refused c.before.if-not-set_ok.true-raw c.before.before.set_ok.ensures) in
+    record { value = w.0; out_after = w.1 }
 
 pub overflow_mul-set_records : goal.overflow_mul-set_records
 overflow_mul-set_records c =
@@ -47,9 +55,11 @@ overflow_mul-set_records c =
 
 pub returns-then-out-set_records : goal.returns-then-out-set_records
 returns-then-out-set_records c =
+    let a = c.args in
     let d = c.before.before.before in
     let e = d.before.before in
-    no_7 _ _ _ _ _ _ _ (size e.before) e.if-line-gt5.false (ranges d) (omega (arith, c.before.if-out-set_records.true, c.before.before.set_records.ensures))
+    let w = no_7 a.m a.line a.has_incurred a.counts.now a.paid.now a.incurred.now a.out.now (size e.before) e.if-line-gt5.false (ranges d) (omega (arith, c.before.if-out-set_records.true, c.before.before.set_records.ensures)) in
+    record { value = w.0; out_after = w.1 }
 
 pub put_set-requires : goal.put_set-requires
 put_set-requires c =
@@ -61,11 +71,13 @@ put_set-requires c =
 
 pub returns : goal.returns
 returns c =
+    let a = c.args in
     let g = c.before.before.before in
     let f = g.before.before in
     let d = f.before.before in
     let e = d.before.before in
-    yes _ _ _ _ _ _ _ (size e.before) e.if-line-gt5.false (ranges d) _ (omega (arith, f.if-out-set_records.false, f.before.set_records.ensures)) g.put_set.ensures
+    let w = yes a.m a.line a.has_incurred a.counts.now a.paid.now a.incurred.now a.out.now (size e.before) e.if-line-gt5.false (ranges d) c.put_set.new.out (omega (arith, f.if-out-set_records.false, f.before.set_records.ensures)) g.put_set.ensures in
+    record { value = w.0; out_after = w.1 }
 
 pub set_ok-requires : goal.set_ok-requires
 set_ok-requires c = (size_so _ (size c.before.before)).1

@@ -9,4 +9,4 @@ returns c =
     let w = c.before.before.before in
     let a = w.before.before.before.args in
     let e = w.delays_into-refusal.ensures in
-    record { value = e.value; line_after = c.before.Store-Line.ensures ∙ delays_line a.m a.file.now e.value a.line.now; p_after = e.p_after }
+    record { value = e.value; line_after = c.before.store_line.ensures ∙ delays_line a.m a.file.now e.value a.line.now; p_after = e.p_after }

@@ -9,4 +9,4 @@ returns c =
     let w = c.before.before.before in
     let a = w.before.before.before.before.before.before.before.args in
     let e = w.shares_into-refusal.ensures in
-    (e.value, (c.before.Store-Line.ensures ∙ shares_line a.m a.file.now e.value a.line.now, e.1))
+    (e.value, (c.before.store_line.ensures ∙ shares_line a.m a.file.now e.value a.line.now, e.1))

@@ -9,7 +9,14 @@ use Rattle.model.specs.Lists.{every}
 use Rattle.model.specs.ListsLaws.{every_none, every_more, every_no}
 use Rattle.model.specs.Records.{cell, in_range}
 use Rattle.model.specs.Tests.{refused, passed}
+use mir.Syntax.{w64}
 use Rattle.set_file.proofs.questions.year_ok.Goals as goal
+use Rattle.set_file.proofs.questions.year_ok.Goals.{After-in_range}
+
+tested :
+    (c : After-in_range)
+    → let s = c.args in c.in_range.result ≡ in_range s.kind (cell s.cells.now s.year c.loop-j.j)
+tested c = c.in_range.ensures ∙ ap (in_range _) (to_z-of_z {w = w64} (record { sfits = c.v-1.given }))
 
 pub loop-j-init : goal.loop-j-init
 loop-j-init c = (search rules, every_none _)

@@ -15,8 +15,3 @@ invariant-loop-j l = (l.j ≤ l.n) × (every l.j (λ i. in_range l.kind (cell l.
 
 abbrev pub decreases-loop-j : goal.decreases-loop-j
 decreases-loop-j l = l.n - l.j
-
-tested :
-    (c : tie.After-in-range invariant-loop decreases-loop)
-    → let s = c.before.before.before.before.args in c.in_range_lem.result ≡ in_range s.kind (cell s.cells.now s.year c.before.before.before.loop.j)
-tested c = c.in_range_lem.ensures ∙ ap (in_range _) (to_z-of_z (record { sfits = c.before.v.given }))

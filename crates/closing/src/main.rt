@@ -1,10 +1,13 @@
 // The program `closing`: reads standard input, and writes the text that `calendar::respond_to`
 // makes of it. Where a read or a write fails, that is told on standard error; after a failed read
 // nothing goes to standard output.
+#![tactic(auto)]
+
 ghost use Rattle.closing.specs.Ends.{Read, WholeOf, Answered};
 
 use calendar::{INPUT_ROOM, TEXT_ROOM};
-use libc::{STDIN_FILENO, STDOUT_FILENO};
+use std::io;
+use std::io::ErrorKind;
 
 // A loop has to end: this many calls move the longest input or text a byte at a time, with about
 // half of them interrupted by signals.
@@ -15,39 +18,38 @@ const CALLS: usize = 20000;
 #[derive(Drop)]
 pub enum Input {
     Bytes(usize),
-    Failed,
+    Failed(io::Error),
 }
 
 // How writing ended: with all bytes written, so many; or at a write that failed.
 #[derive(Drop)]
 pub enum Output {
     Whole(usize),
-    Failed,
+    Failed(io::Error),
 }
 
 // Reads until the input ends, the buffer is full or a read fails. A read may give fewer bytes than
 // it was asked for, and then the next one goes on after them; one that a signal interrupted is made
 // again.
-fn read_all(buf: &mut [u8]) -> Input
+fn read_all<R: io::Read>(reader: &mut R, buf: &mut [u8]) -> Input
     ensures { Read result buf.old buf.new }
 {
     let mut done = 0;
     let mut calls = CALLS;
     while done < buf.len() {
         if calls == 0 {
-            return Input::Failed;
+            return Input::Failed(io::Error::from(ErrorKind::Interrupted));
         }
         calls -= 1;
-        let got = libc::read(STDIN_FILENO, &mut buf[done..]);
-        let n = io::count(got, &buf[done..]);
-        if got < 0 {
-            if os::errno() != libc::EINTR {
-                return Input::Failed;
+        match reader.read(&mut buf[done..]) {
+            Ok(0) => return Input::Bytes(done),
+            Ok(n) => done += n,
+            Err(error) => {
+                if error.kind() != ErrorKind::Interrupted {
+                    return Input::Failed(error);
+                }
             }
-        } else if n == 0 {
-            return Input::Bytes(done);
         }
-        done += n;
     }
     Input::Bytes(done)
 }
@@ -55,49 +57,49 @@ fn read_all(buf: &mut [u8]) -> Input
 // Writes the text, or stops at a write that fails or takes nothing. A write may take fewer bytes
 // than it was given, and then the next one goes on after them; one that a signal interrupted is
 // made again.
-fn write_whole(text: &[u8]) -> Output
+fn write_whole<W: io::Write>(writer: &mut W, text: &[u8]) -> Output
     ensures { WholeOf result text.now }
 {
     let mut sent = 0;
     let mut calls = CALLS;
     while sent < text.len() {
         if calls == 0 {
-            return Output::Failed;
+            return Output::Failed(io::Error::from(ErrorKind::Interrupted));
         }
         calls -= 1;
-        let put = libc::write(STDOUT_FILENO, &text[sent..]);
-        let n = io::count(put, &text[sent..]);
-        if put < 0 {
-            if os::errno() != libc::EINTR {
-                return Output::Failed;
+        match writer.write(&text[sent..]) {
+            Ok(0) => return Output::Failed(io::Error::from(ErrorKind::WriteZero)),
+            Ok(n) => sent += n,
+            Err(error) => {
+                if error.kind() != ErrorKind::Interrupted {
+                    return Output::Failed(error);
+                }
             }
-        } else if n == 0 {
-            return Output::Failed;
         }
-        sent += n;
     }
     Output::Whole(sent)
 }
 
 // Writes the text for the input that was read into the buffer; after a failed read, nothing.
-fn answer(input: &[u8; INPUT_ROOM], read: Input) -> Output
+fn answer<W: io::Write>(writer: &mut W, input: &[u8; INPUT_ROOM], read: Input) -> Output
     ensures { Answered result input.now read }
 {
-    let Input::Bytes(n) = read else {
-        return Output::Failed;
+    let n = match read {
+        Input::Bytes(n) => n,
+        Input::Failed(error) => return Output::Failed(error),
     };
     let mut text = [0u8; TEXT_ROOM];
     let k = calendar::respond_to(input, n, &mut text);
-    write_whole(&text[..k])
+    write_whole(writer, &text[..k])
 }
 
 // Has no `ensures`, since no contract can say what goes in and out of a program: that of `answer`
 // says what is made of the bytes that were read.
-fn main() {
+fn main(rt: HostRuntime) {
     let mut input = [0u8; INPUT_ROOM];
-    let read = read_all(&mut input);
-    let Output::Whole(_) = answer(&input, read) else {
-        os::fail(b"closing");
-        return;
-    };
+    let read = read_all(&mut rt.stdin(), &mut input);
+    if let Output::Failed(error) = answer(&mut rt.stdout(), &input, read) {
+        // Where this fails too, there is nobody to tell.
+        let _ = eprintln!(rt; "closing: {error}");
+    }
 }

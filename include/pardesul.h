@@ -1,8 +1,8 @@
 /* Claims reserving for closing accounts: the calls of the static library libc_api.a, for x86-64,
- * which `rt staticlib c_api` writes. Each call is proved to answer as stated here; docs/TRUST.md
- * says what that rests on.
+ * which `rt lib` in crates/c_api writes. Each call is proved to answer as stated here;
+ * docs/TRUST.md says what that rests on.
  *
- *     cc -I include program.c target/staticlib/libc_api.a
+ *     cc -I include program.c crates/c_api/out/libc_api.a
  *
  * Nothing else has to be linked.
  *

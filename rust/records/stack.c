@@ -3,7 +3,7 @@
  * the call, under every method and basis, with every cut, for windows with and without a day and
  * for given delays, and over journals that do. In the repository's folder,
  *
- *     cc -O2 -Wl,-z,now -I include rust/records/stack.c target/staticlib/libc_api.a -o stack
+ *     cc -O2 -Wl,-z,now -I include rust/records/stack.c crates/c_api/out/libc_api.a -o stack
  *     ./stack
  *
  * prints a line for each call: its name, the bytes that it takes and those that the header states.

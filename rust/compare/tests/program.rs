@@ -15,7 +15,7 @@ fn root() -> PathBuf {
 }
 
 fn program() -> Command {
-    let path = root().join("target/bin/closing");
+    let path = root().join("crates/closing/out/closing");
     assert!(path.exists(), "{} is not built", path.display());
     Command::new(path)
 }

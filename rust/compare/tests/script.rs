@@ -17,7 +17,7 @@ fn example(name: &str) -> PathBuf {
 
 /// The script on these arguments, and nothing on standard input.
 fn script(arguments: &[PathBuf]) -> Command {
-    let program = root().join("target/bin/closing");
+    let program = root().join("crates/closing/out/closing");
     assert!(program.exists(), "{} is not built", program.display());
     let mut command = Command::new(root().join("closing"));
     command.args(arguments).stdin(Stdio::null());

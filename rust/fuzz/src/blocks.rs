@@ -96,7 +96,7 @@ extern "C" fn report() {
 fn find() -> Vec<Block> {
     let library = concat!(
         env!("CARGO_MANIFEST_DIR"),
-        "/../../target/staticlib/libc_api.a"
+        "/../../crates/c_api/out/libc_api.a"
     );
     let symbols = output("nm", &[library]);
     let functions: BTreeSet<&str> = symbols

@@ -70,8 +70,8 @@
 //! of a journal, and [`respond`], the text of the program `closing`. [`calls`] has the calls
 //! themselves, over memory that the caller lends.
 //!
-//! The crate links `target/staticlib/libc_api.a` of its repository, which `rt staticlib c_api`
-//! writes.
+//! The crate links `crates/c_api/out/libc_api.a` of its repository, which `rt lib` in
+//! `crates/c_api` writes.
 
 #![deny(missing_docs)]
 

@@ -37,7 +37,7 @@ fn compile(compiler: &str, flags: &[&str], source: &Path, more: &[&Path]) -> Out
 #[test]
 fn examples() {
     let program = own("examples");
-    let library = root().join("target/staticlib/libc_api.a");
+    let library = root().join("crates/c_api/out/libc_api.a");
     let more = [&library, Path::new("-o"), &program];
     let compiled = compile("cc", &STRICT, &source("examples.c"), &more);
     let said = String::from_utf8_lossy(&compiled.stderr);

@@ -10,14 +10,17 @@ const HEAD: &str = "\
 ## Figures
 
 Lines of code (`src`), of definitions and laws (`specs`) and of proofs (`proofs`), and the number of
-must-fail edits; a test counts them again. Seconds are those of the check in the last run of the
-gate before this was written; it checks several crates at a time.
+must-fail edits; a test counts them again. Seconds are those of the check under the last kit whose
+`rt ci` told them, `rattle-kit-5b-plain`, which checked several crates at a time; a crate that is
+newer, or was cut since, has none or those of the whole. The parts of the gate are those of its last
+run before this was written.
 
 | crate | code | specs | proofs | must-fail edits | seconds |
 |---|---|---|---|---|---|
 ";
 
-/// How long the check of each crate took, and each part of the gate.
+/// How long the check of each crate took, with a kit whose `rt ci` said so, and each part of the
+/// gate.
 #[derive(Default)]
 pub struct Seconds {
     crates: BTreeMap<String, u64>,
@@ -42,15 +45,9 @@ impl Seconds {
         seconds
     }
 
-    /// Takes over those of the gate's last run, as far as its logs are there.
+    /// Takes over the parts of the gate's last run, where its times are there.
     pub fn update(&mut self) {
-        let log = |name| fs::read_to_string(root().join("rust/target/gate").join(name));
-        let proved = log("ci").unwrap_or_default();
-        self.crates.extend(proved.lines().filter_map(|line| {
-            let (name, taken) = line.strip_prefix("rt: ")?.split_once(" proved (")?;
-            entry(name, taken.strip_suffix(" s)")?)
-        }));
-        if let Ok(times) = log("times") {
+        if let Ok(times) = fs::read_to_string(root().join("rust/target/gate/times")) {
             let parts = times.lines().filter_map(|line| {
                 let (taken, name) = line.trim().split_once(" s  ")?;
                 entry(name, taken)
@@ -69,7 +66,7 @@ pub fn section(seconds: &Seconds) -> io::Result<String> {
     let mut text = HEAD.to_string();
     let (mut all, mut all_taken) = ([0; 4], 0);
     for line in fs::read_to_string(root().join("crates.txt"))?.lines() {
-        let (name, _) = line.split_once(':').unwrap_or((line, ""));
+        let name = line.split([' ', ':']).next().unwrap_or(line);
         let folder = root().join("crates").join(name);
         let counts = [
             lines(&folder.join("src"), "rt")?,

@@ -42,8 +42,8 @@ pub fn text(
         "\
 # Records
 
-Written by `{COMMAND}` in `rust/`, after `rt staticlib c_api`; tests
-of the gate say whether it is current.
+Written by `{COMMAND}` in `rust/`, after `rt lib` in
+`crates/c_api`; tests of the gate say whether it is current.
 
 {}
 

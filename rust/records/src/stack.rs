@@ -31,7 +31,7 @@ pub fn stacks() -> Result<Vec<Stack>, String> {
     let mut compile = Command::new("cc");
     compile.args(flags).arg("-I").arg(root().join("include"));
     compile.arg(root().join("rust/records/stack.c"));
-    compile.arg(root().join("target/staticlib/libc_api.a"));
+    compile.arg(root().join("crates/c_api/out/libc_api.a"));
     said_by(compile.arg("-o").arg(&program))?;
     let said = said_by(&mut Command::new(&program))?;
     let stacks = said.lines().map(|line| read(line.split(' ')));

@@ -61,8 +61,8 @@ pub extern "C" fn pardesul_tally_add(
     reported: i64,
     unreported: i64,
 )
-    ensures rbns_value { rbns.exit.now ≡ (tally_add (record { rbns = rbns.entry.now; ibnr = ibnr.old }) year reported unreported).rbns }
-    ensures ibnr_after { ibnr.new ≡ (tally_add (record { rbns = rbns.entry.now; ibnr = ibnr.old }) year reported unreported).ibnr }
+    ensures rbns_after { rbns.new ≡ (tally_add (record { rbns = rbns.old; ibnr = ibnr.old }) year reported unreported).rbns }
+    ensures ibnr_after { ibnr.new ≡ (tally_add (record { rbns = rbns.old; ibnr = ibnr.old }) year reported unreported).ibnr }
 {
     let tally = year_tally::Tally {
         rbns: *rbns,

@@ -12,4 +12,4 @@ pub returns : goal.returns
 returns c =
     let f = c.before.before.before.before.before.ranges in
     let e = rw (to_z-of_z f.reported, to_z-of_z f.unreported) at c.before.before.add-next.ensures in
-    record { rbns_value = ap (λ (t : Tally). t.rbns) e; ibnr_after = ap (λ (t : Tally). t.ibnr) e }
+    record { rbns_after = ap (λ (t : Tally). t.rbns) e; ibnr_after = ap (λ (t : Tally). t.ibnr) e }

@@ -1,6 +1,8 @@
 // The library's calls for programs in other languages. A slice is a pointer and a length, a list of
 // fixed size a pointer to that many places. Each call but `pardesul_respond` hands back the refusal
 // number, 0 where it is accepted; a refusal leaves lent memory as it was.
+#![tactic(auto)]
+
 pub mod back_tests;
 pub mod closing;
 pub mod costs;

@@ -1,5 +1,6 @@
 // The functions of `arithmetic` over plain numbers, as a test or a benchmark in another language
 // calls them. Outside its range a function answers OUTSIDE.
+#![tactic(auto)]
 
 ghost use Rattle.std.specs.Prelude.{◌≡◌};
 ghost use Rattle.model.specs.Questions.{within};

@@ -18,10 +18,10 @@ use Rattle.claim_costs.proofs.claim_costs.Reads as reads
 
 -- the places, as the steps before a goal know them
 abbrev After-read_cells-refusal : Type 0
-After-read_cells-refusal = lts.After-read_cells tie.the-claims reads.Pre reads.Post tie.handed_clauses
+After-read_cells-refusal = lts.After-read_cells tie.the-claims reads.Pre reads.Post
 
 abbrev Else-refusal-ne0 : Type 0
-Else-refusal-ne0 = lts.Else1 tie.the-claims reads.Pre reads.Post tie.handed_clauses
+Else-refusal-ne0 = lts.Else1 tie.the-claims reads.Pre reads.Post
 
 module _ (c : After-read_cells-refusal) where
   abbrev m : ℕ

@@ -64,10 +64,10 @@ module _ (c : After-ultimates-u) where
   abbrev base : After-develop-refusal
   base = one else1
 
-  n_is : c.before.before.before.ultimates-n.result ≡ Shares.ultimates-n (m base) (s base no_set).counts
+  n_is : c.before.before.before.ultimates-n.result ≡ Shares.ultimates (m base) (s base no_set).counts
   n_is = c.before.before.before.ultimates-n.ensures ∙ ladder_ultimates (base.develop-refusal.ensures.counts else1.if-refusal-ne0.false) (most_size base)
 
-  u_is : c.ultimates-u.result ≡ Shares.ultimates-n (m base) (s base no_set).paid
+  u_is : c.ultimates-u.result ≡ Shares.ultimates (m base) (s base no_set).paid
   u_is = c.ultimates-u.ensures ∙ ladder_ultimates (base.develop-refusal.ensures.paid else1.if-refusal-ne0.false) (most_size base)
 
 -- the mean costs, and mu

@@ -4,7 +4,10 @@ use Rattle.delays.specs.PreparedLaws.{as_solved}
 use Rattle.delays.proofs.delays_into.Goals as goal
 
 pub returns : goal.returns
-returns c = let a = c.before.before.before.before.before.args in as_solved a.m a.file.now c.before.file_delays.ensures
+returns c =
+    let a = c.args in
+    let w = as_solved a.m a.file.now c.file_delays.ensures in
+    record { value = w.0; p_after = w.1 }
 
 pub slice_bounds-file_delays-end : goal.slice_bounds-file_delays-end
 slice_bounds-file_delays-end c = refl

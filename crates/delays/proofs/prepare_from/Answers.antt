@@ -64,10 +64,10 @@ module _ (e : Else-refusal-ne0) where
 
 module _ (r : After-shares_of-q) where
   abbrev two : Else-refusal-ne0
-  two = r.before.before.before.before
+  two = r.before.before
 
-  b_is : r.before.before.shares_of-b.result ≡ b_list (m (one two)) (c (one two))
-  b_is = r.before.before.shares_of-b.ensures ∙ ladder_shares (counts two) (shared two).counts.small.few
+  b_is : r.shares_of-b.result ≡ b_list (m (one two)) (c (one two))
+  b_is = r.shares_of-b.ensures ∙ ladder_shares (counts two) (shared two).counts.small.few
 
   q_is : r.shares_of-q.result ≡ b_list (m (one two)) (d (one two))
   q_is = r.shares_of-q.ensures ∙ ladder_shares (paid two) (shared two).counts.small.few
@@ -115,10 +115,10 @@ pub develop-refusal-requires : goal.develop-refusal-requires
 develop-refusal-requires c = let s = c.before.before.before.before in record { amounts = s.requires.amounts; count_latest_value = s.requires.count_latest_value }
 
 pub shares_of-b-requires : goal.shares_of-b-requires
-shares_of-b-requires c = let e = c.before in (ladder_ready (counts e) (counts_ready (shared e))).bounds
+shares_of-b-requires c = let e = c in (ladder_ready (counts e) (counts_ready (shared e))).bounds
 
 pub shares_of-q-requires : goal.shares_of-q-requires
-shares_of-q-requires c = let e = c.before.before.before in (ladder_ready (paid e) (paid_ready (shared e))).bounds
+shares_of-q-requires c = let e = c.before in (ladder_ready (paid e) (paid_ready (shared e))).bounds
 
 pub from_either-found-requires : goal.from_either-found-requires
 from_either-found-requires r = let s = r.before.before in solvable (shared (two s)) (b_is s) (q_is s)

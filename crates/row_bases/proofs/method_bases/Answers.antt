@@ -56,7 +56,7 @@ module _ (c : After-ultimates-u) where
   abbrev base : After-incurred_under
   base = one two
 
-  u_is : c.ultimates-u.result ≡ Shares.ultimates-u (m base) (triangle_in 1 (start base).args.set.now)
+  u_is : c.ultimates-u.result ≡ Shares.ultimates (m base) (triangle_in 1 (start base).args.set.now)
   u_is = c.ultimates-u.ensures ∙ ladder_ultimates (start base).requires.ladder.0 (few base)
 
 pub returns-then-not-incurred_under : goal.returns-then-not-incurred_under

@@ -56,10 +56,10 @@ answer_is c =
 
 pub returns-in_default : goal.returns-in_default
 returns-in_default c =
-    let n = c.before.before.before in
+    let n = c.before in
     let d = n.before in
     let k = (l d).loop-k.k in
-    let over = over_is (2 * 10 ^ 14) (base (a d) k) (sym (answer_is n) ∙ c.before.enum_told-1.given.1) in
+    let over = over_is (2 * 10 ^ 14) (base (a d) k) (sym (answer_is n) ∙ c.in_default.is) in
     record {
       answer = sym (every_no (λ i. leb (nat_abs (base (a d) i)) (2 * 10 ^ 14)) (a d).args.m k (omega arith) (lt-leb (nat_abs (base (a d) k)) (2 * 10 ^ 14) over));
       listed_all = λ e. absurd (false≢true e);
@@ -67,10 +67,10 @@ returns-in_default c =
 
 pub loop-k-preserved : goal.loop-k-preserved
 loop-k-preserved c =
-    let n = c.before.before.before.before in
+    let n = c.before in
     let d = n.before in
     let k = (l d).loop-k.k in
-    let told = within_is (2 * 10 ^ 14) (base (a d) k) c.before.before.base-1.given.0.0 (sym (answer_is n) ∙ c.before.before.base-1.given.1) in
+    let told = within_is (2 * 10 ^ 14) (base (a d) k) c.in-Within.base (sym (answer_is n) ∙ c.in-Within.is) in
     let fits : SFits w64 (base (a d) k) = fits_abs (omega (arith, told.1)) in (
       omega arith,
       every_more (λ i. leb (nat_abs (base (a d) i)) (2 * 10 ^ 14)) k (l d).loop-k.invariant.1 (le-leb (nat_abs (base (a d) k)) (2 * 10 ^ 14) told.1),

@@ -26,7 +26,7 @@ module _ (c : After-has_room) where
   cell_fits = record { sfits = c.before.cell-1.given }
 
   asked : c.has_room.result ≡ in_range start.args.kind (cell +ℤ start.args.amount)
-  asked = rw (to_z-of_z cell_fits, to_z-of_z start.fits.amount) at c.has_room.ensures
+  asked = rw (to_z-of_z cell_fits, to_z-of_z start.ranges.amount) at c.has_room.ensures
 
 pub returns-then-not-has_room : goal.returns-then-not-has_room
 returns-then-not-has_room c =

@@ -34,16 +34,17 @@ returns-then-not-q1 c = sym (rw (sym c.q1.ensures ∙ c.if-not-q1.true))
 pub returns-then-journal-gt65536 : goal.returns-then-journal-gt65536
 unfolding first_no
 returns-then-journal-gt65536 c =
-    sym (rw (sym c.q1.ensures ∙ c.if-not-q1.false, long _ c.if-journal-gt65536.true))
+    let n = long c.args.journal.now c.if-journal-gt65536.true in
+    sym (rw (sym c.q1.ensures ∙ c.if-not-q1.false, n))
 
 pub returns-then-journal-ne0 : goal.returns-then-journal-ne0
 unfolding first_no
 returns-then-journal-ne0 c =
-    sym (rw (sym c.q1.ensures ∙ c.if-not-q1.false, uneven _ c.if-journal-ne0.true))
+    let n = uneven c.args.journal.now c.if-journal-ne0.true in
+    sym (rw (sym c.q1.ensures ∙ c.if-not-q1.false, n))
 
 pub returns : goal.returns
 unfolding first_no
 returns c =
-    sym
-    (rw
-    (sym c.q1.ensures ∙ c.if-not-q1.false, whole _ c.if-journal-gt65536.false c.if-journal-ne0.false))
+    let y = whole c.args.journal.now c.if-journal-gt65536.false c.if-journal-ne0.false in
+    sym (rw (sym c.q1.ensures ∙ c.if-not-q1.false, y))

@@ -1,5 +1,4 @@
 -- `has_room` meets its contract. Assumes nothing.
-use borrow.Author.Rules.{rules}
 use lib.IntN.{◌+ℤ◌}
 use mir.Syntax.{w64}
 use mir.Val.{SFits}

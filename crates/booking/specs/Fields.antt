@@ -1,5 +1,5 @@
 -- What question 16 says of a transaction. Assumes nothing.
-use Rattle.std.specs.Prelude.{ℕ, zero, suc, ◌^◌, ◌<◌, ◌≤◌, ◌≡◌, refl, Bool, true, false, ◌&&◌, cond, leb, eqb, pos}
+use Rattle.std.specs.Prelude.{ℕ, zero, suc, ◌^◌, ◌<◌, ◌≡◌, refl, Bool, true, false, ◌&&◌, cond, leb, eqb, pos}
 use Rattle.std.proofs.Common.{arith, leb-true}
 use Rattle.integers.specs.Parts.{◌⩽◌}
 use Rattle.integers.specs.Order.{≤ℤ_trans}

@@ -1,5 +1,7 @@
 // One transaction of a claims journal (02, Job 3): its questions, and the parts of a tally brought up
 // to date.
+#![tactic(auto)]
+
 ghost use Rattle.std.specs.Prelude.{◌≡◌, cond, ◌^◌, ◌<◌, eqb, pos, ◌+ℤ◌};
 ghost use Rattle.integers.specs.Parts.{◌⩽◌};
 ghost use Rattle.model.specs.Records.{in_range};

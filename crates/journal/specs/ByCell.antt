@@ -1,6 +1,6 @@
 -- The triangles of an accepted journal are its reports counted and its payments added by cell.
 -- Assumes nothing.
-use Prim.Native.Nat.{ℕ, zero, suc, ◌+◌, ◌-◌, ◌/◌, ◌%◌, ◌<◌, ◌≤◌}
+use Prim.Native.Nat.{ℕ, zero, suc, ◌+◌, ◌/◌, ◌%◌, ◌<◌, ◌≤◌}
 use Rattle.std.proofs.Common.{arith, ◌∙◌, true≢false, length-set}
 use Rattle.std.specs.Prelude.{◌≡◌, Bool, true, false, ◌&&◌, leb, ℤ, ◌+ℤ◌, length, set, replicate}
 use Rattle.std.proofs.Math.Path.{refl, sym, ap}

@@ -1,5 +1,7 @@
 // The claims journal (02, Job 3): a running tally that each transaction brings up to date, and the
 // replay of a whole journal.
+#![tactic(auto)]
+
 ghost use Rattle.std.specs.Prelude.{◌≡◌, ◌&&◌, ◌+◌, ◌*◌, ◌≤◌, [], ◌∷◌, ltb, eqb, length};
 ghost use Rattle.model.specs.Records.{records};
 ghost use Rattle.model.specs.Questions.{first_no, q1};

@@ -1,5 +1,4 @@
 -- `has_room` meets its contract. Assumes nothing.
-use borrow.Author.Rules.{rules}
 use lib.IntN.{◌+ℤ◌}
 use mir.Syntax.{w64}
 use mir.Val.{SFits}
@@ -25,4 +24,4 @@ overflow_add-cell c = let s = c.before.before in rw (to_z-of_z s.ranges.cell, to
 pub returns : goal.returns
 returns c =
     let s = c.before.before.before in
-    rw (to_z-of_z s.ranges.cell, to_z-of_z s.ranges.amount, to_z-of_z (fits c.before)) at c.in_range_lem.ensures
+    rw (to_z-of_z s.ranges.cell, to_z-of_z s.ranges.amount, to_z-of_z (fits c.before)) at c.in_range.ensures

@@ -1,15 +1,10 @@
-use mathlib.Core.Path.{◌≡◌}
-use mathlib.Core.List.{[], ◌∷◌, ◌++◌}
 use Prim.Native.Nat.{◌+◌, ◌-◌, ◌≤◌}
-use native.Mathlib.Numerals.{add-one}
-use native.Mathlib.Omega.{arith}
-use lib.ListN.{length, take, get_or}
-use lib.Seq.{take-suc, take_all}
-use Rattle.text.specs.Written.{Written, written_start, written_next, written_length}
+use lib.ListN.{length, take}
+use Rattle.text.specs.Written.{Written}
 use Rattle.text.proofs.write_bytes.Given as goal
 
 abbrev pub invariant-loop-k : goal.invariant-loop-k
-invariant-loop-k l = (l.k ≤ length l.initial.out) × Written l.at l.s (take l.k l.initial.out) l.out (l.s + l.k)
+invariant-loop-k l = (l.k ≤ length l.s) × Written l.initial.out l.at (take l.k l.s) l.out (l.at + l.k)
 
 abbrev pub decreases-loop-k : goal.decreases-loop-k
-decreases-loop-k l = length l.initial.out - l.k
+decreases-loop-k l = length l.s - l.k

@@ -1,4 +1,6 @@
 // The first line of the input of `closing`: "m method basis".
+#![tactic(auto)]
+
 ghost use Rattle.std.specs.Prelude.{◌≡◌, ◌+◌, ◌-◌, ◌≤◌, ◌<◌, length, drop};
 ghost use Rattle.std.proofs.Math.Seq.{slice};
 ghost use Rattle.model.specs.Calendar.{front, value_from, run_at, first_line};

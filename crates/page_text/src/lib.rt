@@ -1,4 +1,6 @@
 // The closing page of a tally (02, Job 1): its calendar years in columns, for paper.
+#![tactic(auto)]
+
 ghost use Rattle.std.specs.Prelude.{◌≡◌, true, ℕ, ◌+◌, ◌*◌, ◌≤◌, ◌<◌, ◌+ℤ◌, length};
 ghost use Rattle.model.specs.Lists.{at};
 ghost use Rattle.model.specs.Overlay.{overlay};

@@ -1,4 +1,6 @@
 // The text that `closing` prints: of a tally, or of a refusal.
+#![tactic(auto)]
+
 ghost use Rattle.std.specs.Prelude.{◌≡◌, true, ℕ, ◌+◌, ◌≤◌, ◌<◌, ◌+ℤ◌, length};
 ghost use Rattle.model.specs.Lists.{at};
 ghost use Rattle.model.specs.Overlay.{overlay};

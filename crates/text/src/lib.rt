@@ -1,6 +1,7 @@
 // Text in lent memory. Numbers and fields are written from a place on, each by a function that
 // hands back the place after what it wrote; of these the text of a tally and the closing page are
 // made.
+#![tactic(auto)]
 
 ghost use Rattle.std.specs.Prelude.{◌≡◌, [], ◌∷◌, ◌+◌, ◌≤◌, ◌<◌, length, replicate};
 ghost use Rattle.model.specs.Calendar.{digits, amount};

@@ -1,10 +1,6 @@
 -- `text::first_line::digits_end` meets its contract. The invariant: every byte passed is a
 -- digit. Assumes nothing.
-use mathlib.Core.Path.{◌≡◌}
-use Prim.Native.Nat.{◌+◌, ◌-◌, ◌≤◌}
 use native.Mathlib.Omega.{arith}
-use lib.ListN.{length, drop}
-use Rattle.model.specs.Calendar.{front}
 use Rattle.first_line.specs.Runs.{front_stop, front_more, front_end, low_digit, high_digit, in_digit}
 use Rattle.first_line.proofs.digits_end.Goals as goal
 

@@ -5,7 +5,6 @@ use Prim.Native.Nat.{ℕ, ◌+◌}
 use native.Mathlib.Omega.{arith}
 use Rattle.model.specs.declared.Run.TheVariants.{Number}
 use Rattle.first_line.specs.Runs.{run_none, run_long, run_other, run_past, run_is}
-use borrow.Author.Rules.{rules}
 use Rattle.first_line.proofs.run_at.Goals as goal
 
 pub returns-then-e-at : goal.returns-then-e-at

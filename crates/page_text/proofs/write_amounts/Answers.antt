@@ -13,7 +13,6 @@ use Rattle.year_tally.specs.TallyAddLaws.{fits_so, so_fits}
 use Rattle.model.specs.Page.{aligned}
 use Rattle.text.specs.Written.{Written, written_then}
 use Rattle.page_text.specs.PageLaws.{amounts, narrow, aligned_length}
-use borrow.Author.Rules.{rules}
 use Rattle.page_text.proofs.write_amounts.Goals as goal
 use Rattle.page_text.proofs.write_amounts.Goals.{After-write_aligned-end, After-write_aligned-second, After-write_aligned-third, Start}
 

@@ -1,15 +1,15 @@
 -- `page_text::write_years` meets its contract. The invariant: the lines of the first k years
 -- are written, 68 bytes each, and nothing else. Assumes nothing.
 use mathlib.Core.Path.{◌≡◌, ap}
-use Prim.Native.Nat.{◌+◌, ◌-◌, ◌*◌, ◌^◌, ◌≤◌, ◌<◌}
+use Prim.Native.Nat.{◌+◌, ◌^◌, ◌≤◌, ◌<◌}
 use native.Mathlib.Omega.{arith}
-use borrow.Author.Rules.{rules, sfits_of}
+use borrow.Author.Rules.{sfits_of}
 use lib.ListN.{length}
 use mir.Syntax.{w64}
 use mir.Val.{to_z}
 use mir.Facts.{to_z-of_z, to_z_pos}
 use Rattle.model.specs.Lists.{at}
-use Rattle.model.specs.Calendar.{digits, amount, lines}
+use Rattle.model.specs.Calendar.{digits, amount}
 use Rattle.year_tally.specs.TallyAddLaws.{so_fits}
 use Rattle.model.specs.Page.{aligned, page_line}
 use Rattle.year_tally.specs.declared.Tally.{Tally}

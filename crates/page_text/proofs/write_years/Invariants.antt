@@ -1,20 +1,9 @@
-use mathlib.Core.Path.{◌≡◌, ap}
-use Prim.Native.Nat.{◌+◌, ◌-◌, ◌*◌, ◌^◌, ◌≤◌, ◌<◌}
-use native.Mathlib.Omega.{arith}
-use borrow.Author.Rules.{rules, sfits_of}
-use lib.ListN.{length}
-use mir.Syntax.{w64}
-use mir.Val.{to_z}
-use mir.Facts.{to_z-of_z, to_z_pos}
-use Rattle.model.specs.Lists.{at}
-use Rattle.model.specs.Calendar.{digits, amount, lines}
-use Rattle.year_tally.specs.TallyAddLaws.{so_fits}
-use Rattle.model.specs.Page.{aligned, page_line}
-use Rattle.year_tally.specs.declared.Tally.{Tally}
-use Rattle.text.specs.Written.{Written, written_none, written_then, written_length}
+use mathlib.Core.Path.{◌≡◌}
+use Prim.Native.Nat.{◌+◌, ◌-◌, ◌*◌, ◌≤◌}
+use Rattle.model.specs.Calendar.{lines}
+use Rattle.model.specs.Page.{page_line}
+use Rattle.text.specs.Written.{Written}
 use Rattle.tally.specs.YearSums.{tally_in}
-use Rattle.tally_text.specs.TallyTextLaws.{lines_none}
-use Rattle.page_text.specs.PageLaws.{LineFits, page_next, aligned_length, amounts_length, year_width}
 use Rattle.page_text.proofs.write_years.Given as goal
 
 abbrev pub invariant-loop-k : goal.invariant-loop-k

@@ -1,7 +1,7 @@
 -- `tally::spaced_sum` meets its contract. The invariant: s is the sum of the first k
 -- entries. Assumes nothing.
-use mathlib.Core.Path.{◌≡◌, ap}
-use Prim.Native.Nat.{ℕ, ◌+◌, ◌-◌, ◌*◌, ◌<◌, ◌≤◌}
+use mathlib.Core.Path.{◌≡◌, sym, ◌∙◌}
+use Prim.Native.Nat.{ℕ, ◌+◌, ◌*◌, ◌<◌, ◌≤◌}
 use native.Mathlib.Omega.{arith}
 use borrow.Author.Rules.{sfits_of}
 use lib.IntN.{ℤ, ◌+ℤ◌}
@@ -9,10 +9,10 @@ use lib.ListN.{length}
 use mir.Syntax.{w64}
 use mir.Val.{SFits, to_z, of_z}
 use mir.Facts.{to_z-of_z}
-use Rattle.integers.specs.Sums.{sum}
+use Rattle.integers.specs.Sums.{sum, sum_zero}
 use Rattle.model.specs.Lists.{at}
 use Rattle.year_tally.specs.TallyAddLaws.{fits_so}
-use Rattle.rounding.specs.Running.{sum_none, held, sum_more}
+use Rattle.rounding.specs.Running.{sum_add}
 use Rattle.tally.proofs.spaced_sum.Goals as goal
 use Rattle.tally.proofs.spaced_sum.Goals.{After-s-1, In-loop-k, Start}
 
@@ -29,16 +29,16 @@ added : (c : After-s-1)
     → (let l = c.before.before in to_z w64 l.loop-k.s-bits +ℤ to_z w64 (of_z w64 (number l.before l.loop-k.k)) ≡ sum (l.loop-k.k + 1) (number l.before))
 added c =
     let l = c.before.before in
-    sum_more l.loop-k.k _ l.loop-k.invariant.1 (part_fits l.before l.loop-k.k (omega arith)) (to_z-of_z {w = w64} (sfits_of c.s-1.given))
+    sum_add l.loop-k.k _ l.loop-k.invariant.1 (to_z-of_z {w = w64} (sfits_of c.s-1.given))
 
 pub returns : goal.returns
 returns c =
     let s = c.before.before in
     let e : c.before.loop-k.k ≡ s.args.n = omega arith in
-    rw e at (held c.before.loop-k.invariant.1 (part_fits s c.before.loop-k.k (omega arith)))
+    rw e at c.before.loop-k.invariant.1
 
 pub loop-k-init : goal.loop-k-init
-loop-k-init c = (omega arith, sum_none _)
+loop-k-init c = (omega arith, sym (sum_zero _))
 
 pub overflow_mul-s : goal.overflow_mul-s
 overflow_mul-s c = omega (arith, inside c)
@@ -62,4 +62,4 @@ pub loop-k-smaller : goal.loop-k-smaller
 loop-k-smaller c = omega arith
 
 pub loop-k-preserved : goal.loop-k-preserved
-loop-k-preserved c = (omega arith, ap (of_z w64) (added c))
+loop-k-preserved c = (omega arith, to_z-of_z {w = w64} (overflow_add-s-in-loop-k c) ∙ added c)

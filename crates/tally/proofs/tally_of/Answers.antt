@@ -1,14 +1,14 @@
 -- `tally::tally_of` meets its contract. The invariant: t is the tally of calendar years 1
 -- to k. Assumes nothing.
 use mathlib.Core.Path.{◌≡◌}
-use Prim.Native.Nat.{◌-◌, ◌*◌, ◌≤◌}
+use Prim.Native.Nat.{◌-◌, ◌*◌}
 use native.Mathlib.Omega.{arith}
-use borrow.Author.Rules.{rules, sfits_of}
+use borrow.Author.Rules.{sfits_of}
 use mir.Syntax.{w64}
 use mir.Val.{SFits}
 use mir.Facts.{to_z-of_z}
 use Rattle.year_tally.specs.TallyAddLaws.{so_fits}
-use Rattle.tally.specs.YearRows.{years_to, no_years, all_years, year_added}
+use Rattle.tally.specs.YearRows.{no_years, all_years, year_added}
 use Rattle.tally.proofs.tally_of.Goals as goal
 
 pub loop-k-preserved : goal.loop-k-preserved

@@ -1,12 +1,6 @@
 use mathlib.Core.Path.{◌≡◌}
-use Prim.Native.Nat.{◌-◌, ◌*◌, ◌≤◌}
-use native.Mathlib.Omega.{arith}
-use borrow.Author.Rules.{rules, sfits_of}
-use mir.Syntax.{w64}
-use mir.Val.{SFits}
-use mir.Facts.{to_z-of_z}
-use Rattle.year_tally.specs.TallyAddLaws.{so_fits}
-use Rattle.tally.specs.YearRows.{years_to, no_years, all_years, year_added}
+use Prim.Native.Nat.{◌-◌, ◌≤◌}
+use Rattle.tally.specs.YearRows.{years_to}
 use Rattle.tally.proofs.tally_of.Given as goal
 
 abbrev pub invariant-loop-k : goal.invariant-loop-k

@@ -3,7 +3,7 @@
 use mir.Syntax.{w64}
 use Prim.Native.Nat.{◌+◌, ◌-◌, ◌*◌, ◌≤◌}
 use native.Mathlib.Omega.{arith}
-use borrow.Author.Rules.{rules, sfits_of}
+use borrow.Author.Rules.{sfits_of}
 use mir.Facts.{to_z-of_z}
 use Rattle.tally.specs.YearSums.{few_cells}
 use Rattle.tally.specs.YearRows.{inside, spaced, year_spaced}

@@ -4,7 +4,6 @@ use native.Mathlib.Omega.{arith}
 use mir.Facts.{to_z-of_z}
 use Rattle.text.specs.Written.{written_then}
 use Rattle.tally_text.specs.TallyTextLaws.{field, field_size}
-use borrow.Author.Rules.{rules}
 use Rattle.tally_text.proofs.write_field.Goals as goal
 
 pub write_amount-requires : goal.write_amount-requires

@@ -2,14 +2,13 @@
 -- years are written, and nothing else. Assumes nothing.
 use mir.Syntax.{w64}
 use mathlib.Core.Path.{◌≡◌}
-use Prim.Native.Nat.{◌-◌, ◌≤◌}
 use native.Mathlib.Omega.{arith}
 use borrow.Author.Rules.{sfits_of}
 use mir.Facts.{to_z-of_z}
-use Rattle.model.specs.Calendar.{line, lines}
+use Rattle.model.specs.Calendar.{line}
 use Rattle.year_tally.specs.declared.Tally.{Tally}
 use Rattle.tally.specs.YearSums.{tally_in}
-use Rattle.text.specs.Written.{Written, written_none, written_then, written_length}
+use Rattle.text.specs.Written.{written_none, written_then, written_length}
 use Rattle.tally_text.specs.TallyTextLaws.{lines_none, text_next, next_room}
 use Rattle.tally_text.proofs.write_lines.Goals as goal
 use Rattle.tally_text.proofs.write_lines.Goals.{Start}

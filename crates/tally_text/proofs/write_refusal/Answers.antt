@@ -4,7 +4,6 @@ use native.Mathlib.Omega.{arith}
 use Rattle.model.specs.Calendar.{refusal_text}
 use Rattle.text.specs.Written.{written_then, written_whole}
 use Rattle.tally_text.specs.TallyTextLaws.{refusal_size}
-use borrow.Author.Rules.{rules}
 use Rattle.tally_text.proofs.write_refusal.Goals as goal
 
 pub write_digits-end-requires : goal.write_digits-end-requires

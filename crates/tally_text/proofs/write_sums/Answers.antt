@@ -10,7 +10,6 @@ use mir.Facts.{to_z-of_z}
 use Rattle.text.specs.Written.{Written, written_then}
 use Rattle.tally_text.specs.TallyTextLaws.{field, sums, sums_size}
 use Rattle.year_tally.specs.TallyAddLaws.{fits_so}
-use borrow.Author.Rules.{rules}
 use Rattle.tally_text.proofs.write_sums.Goals as goal
 use Rattle.tally_text.proofs.write_sums.Goals.{After-write_field-end, After-write_field-second, After-write_field-third, Start}
 

@@ -9,7 +9,7 @@ use Rattle.tally.specs.YearSums.{tally_in}
 use Rattle.text.specs.Written.{Written, written_then, written_whole}
 use Rattle.tally.specs.YearRows.{total_is, total_spaced}
 use Rattle.tally_text.specs.TallyTextLaws.{tally_text_is, tally_text_size}
-use borrow.Author.Rules.{rules, sfits_of}
+use borrow.Author.Rules.{sfits_of}
 use Rattle.tally_text.proofs.write_tally_text.Goals as goal
 use Rattle.tally_text.proofs.write_tally_text.Goals.{After-put-next, Start}
 

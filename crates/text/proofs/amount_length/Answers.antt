@@ -5,7 +5,6 @@ use native.Mathlib.Omega.{arith}
 use lib.ListN.{length}
 use Rattle.text.specs.Digits.{digits_length}
 use Rattle.text.proofs.Signs.{amount_below, amount_not_below}
-use borrow.Author.Rules.{rules}
 use Rattle.text.proofs.amount_length.Goals as goal
 
 pub overflow_add-result : goal.overflow_add-result

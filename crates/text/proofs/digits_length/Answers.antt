@@ -1,10 +1,6 @@
 -- `text::digits_length` meets its contract. The invariant: the digits counted and those of the rest
 -- are one more than all. Assumes nothing.
-use mathlib.Core.Path.{◌≡◌}
-use Prim.Native.Nat.{◌+◌}
 use native.Mathlib.Omega.{arith}
-use lib.ListN.{length}
-use Rattle.model.specs.Calendar.{digits}
 use Rattle.text.specs.Digits.{length_small, length_large, digits_length, leads}
 use Rattle.text.proofs.digits_length.Goals as goal
 

@@ -1,9 +1,7 @@
 use mathlib.Core.Path.{◌≡◌}
 use Prim.Native.Nat.{◌+◌}
-use native.Mathlib.Omega.{arith}
 use lib.ListN.{length}
 use Rattle.model.specs.Calendar.{digits}
-use Rattle.text.specs.Digits.{length_small, length_large, digits_length, leads}
 use Rattle.text.proofs.digits_length.Given as goal
 
 abbrev pub invariant-loop-rest : goal.invariant-loop-rest

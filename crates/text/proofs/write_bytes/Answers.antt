@@ -2,12 +2,12 @@
 -- nothing else. Assumes nothing.
 use mathlib.Core.Path.{◌≡◌}
 use mathlib.Core.List.{[], ◌∷◌, ◌++◌}
-use Prim.Native.Nat.{◌+◌, ◌-◌, ◌≤◌}
+use Prim.Native.Nat.{◌+◌}
 use native.Mathlib.Numerals.{add-one}
 use native.Mathlib.Omega.{arith}
-use lib.ListN.{length, take, get_or}
+use lib.ListN.{take, get_or}
 use lib.Seq.{take-suc, take_all}
-use Rattle.text.specs.Written.{Written, written_start, written_next, written_length}
+use Rattle.text.specs.Written.{written_start, written_next, written_length}
 use Rattle.text.proofs.write_bytes.Goals as goal
 
 pub loop-k-preserved : goal.loop-k-preserved

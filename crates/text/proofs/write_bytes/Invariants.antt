@@ -1,11 +1,6 @@
-use mathlib.Core.Path.{◌≡◌}
-use mathlib.Core.List.{[], ◌∷◌, ◌++◌}
 use Prim.Native.Nat.{◌+◌, ◌-◌, ◌≤◌}
-use native.Mathlib.Numerals.{add-one}
-use native.Mathlib.Omega.{arith}
-use lib.ListN.{length, take, get_or}
-use lib.Seq.{take-suc, take_all}
-use Rattle.text.specs.Written.{Written, written_start, written_next, written_length}
+use lib.ListN.{length, take}
+use Rattle.text.specs.Written.{Written}
 use Rattle.text.proofs.write_bytes.Given as goal
 
 abbrev pub invariant-loop-k : goal.invariant-loop-k

@@ -2,10 +2,10 @@
 -- Assumes nothing.
 use mathlib.Core.Path.{◌≡◌, sym}
 use mathlib.Core.List.{[], ◌∷◌, ◌++◌}
-use Prim.Native.Nat.{ℕ, ◌+◌, ◌-◌, ◌≤◌}
+use Prim.Native.Nat.{ℕ, ◌+◌}
 use native.Mathlib.Omega.{arith}
 use lib.ListN.{replicate, replicate-append-replicate}
-use Rattle.text.specs.Written.{Written, written_start, written_next, written_length}
+use Rattle.text.specs.Written.{written_start, written_next, written_length}
 use Rattle.text.proofs.write_spaces.Goals as goal
 
 pub loop-k-preserved : goal.loop-k-preserved

@@ -1,9 +1,6 @@
-use mathlib.Core.Path.{◌≡◌, sym}
-use mathlib.Core.List.{[], ◌∷◌, ◌++◌}
-use Prim.Native.Nat.{ℕ, ◌+◌, ◌-◌, ◌≤◌}
-use native.Mathlib.Omega.{arith}
-use lib.ListN.{replicate, replicate-append-replicate}
-use Rattle.text.specs.Written.{Written, written_start, written_next, written_length}
+use Prim.Native.Nat.{◌+◌, ◌-◌, ◌≤◌}
+use lib.ListN.{replicate}
+use Rattle.text.specs.Written.{Written}
 use Rattle.text.proofs.write_spaces.Given as goal
 
 abbrev pub invariant-loop-k : goal.invariant-loop-k

@@ -1,5 +1,7 @@
 // Forms of C, where a value of Rattle's has none: an inflation as a kind and a ratio, a date as three
 // numbers.
+#![tactic(auto)]
+
 ghost use Rattle.std.specs.Prelude.{◌≡◌};
 ghost use Rattle.c_forms.specs.Inflations.{kind_of, ratio_of, kinds_of, ratios_of};
 ghost use Rattle.c_forms.specs.Dates.{date_in};

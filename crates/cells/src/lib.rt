@@ -1,4 +1,5 @@
 // The cells of a year (01, Cell forecasts).
+#![tactic(auto)]
 
 ghost use Rattle.std.specs.Prelude.{◌≡◌, ℕ, ◌+◌, ◌-◌, ◌*◌, ◌^◌, ◌≤◌, ◌<◌, leb, pos, nat_abs, length};
 ghost use Rattle.model.specs.Lists.{tabulate};

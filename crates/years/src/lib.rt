@@ -1,5 +1,7 @@
 // The cells of all years (01, Cell forecasts), written one year after the other, by the weights of
 // each year's reported claims.
+#![tactic(auto)]
+
 pub mod weights;
 
 ghost use Rattle.std.specs.Prelude.{◌≡◌, ◌+◌, ◌*◌, ◌≤◌, ◌<◌, pos, length, replicate};

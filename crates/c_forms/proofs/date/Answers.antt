@@ -1,5 +1,4 @@
 -- `date` meets its contract: year, month and day stand in this order. Assumes nothing.
-use borrow.Author.Rules.{rules}
 use mathlib.Core.Path.{refl}
 use Rattle.c_forms.proofs.date.Goals as goal
 

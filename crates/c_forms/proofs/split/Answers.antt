@@ -1,16 +1,10 @@
 -- `split` meets its contract: the kinds and ratios so far are made. Assumes nothing.
-use borrow.Author.Rules.{rules}
 use mathlib.Core.Path.{◌≡◌, ◌∙◌}
-use mathlib.Core.List.{List}
 use native.Mathlib.Omega.{arith}
-use Prim.Native.Nat.{ℕ, ◌-◌, ◌≤◌}
-use lib.Ieee.{Float, of_bits}
-use Rattle.model.specs.Lists.{listed}
+use lib.Ieee.{of_bits}
 use Rattle.model.specs.ListsLaws.{listed_none, listed_next, listed_whole}
 use Rattle.model.specs.ClaimCosts.{no_float}
-use Rattle.model.specs.declared.YearInflation.{YearInflation}
-use Rattle.c_forms.specs.Inflations.{kind_of, ratio_of, inflation_at, kinds_of, ratios_of}
-use Rattle.c_forms.proofs.split.Invariants.{kind_at, ratio_at}
+use Rattle.c_forms.specs.Inflations.{kinds_of, ratios_of}
 use Rattle.c_forms.proofs.split.Goals as goal
 
 pub loop-k-init : goal.loop-k-init

@@ -1,14 +1,11 @@
-use borrow.Author.Rules.{rules}
-use mathlib.Core.Path.{◌≡◌, ◌∙◌}
+use mathlib.Core.Path.{◌≡◌}
 use mathlib.Core.List.{List}
-use native.Mathlib.Omega.{arith}
 use Prim.Native.Nat.{ℕ, ◌-◌, ◌≤◌}
-use lib.Ieee.{Float, of_bits}
+use lib.Ieee.{Float}
 use Rattle.model.specs.Lists.{listed}
-use Rattle.model.specs.ListsLaws.{listed_none, listed_next, listed_whole}
 use Rattle.model.specs.ClaimCosts.{no_float}
 use Rattle.model.specs.declared.YearInflation.{YearInflation}
-use Rattle.c_forms.specs.Inflations.{kind_of, ratio_of, inflation_at, kinds_of, ratios_of}
+use Rattle.c_forms.specs.Inflations.{kind_of, ratio_of, inflation_at}
 use Rattle.c_forms.proofs.split.Given as goal
 
 abbrev pub kind_at : List YearInflation → ℕ → ℕ

@@ -2,7 +2,6 @@
 use mathlib.Core.Path.{◌≡◌}
 use Prim.Native.Nat.{◌+◌}
 use native.Mathlib.Omega.{arith}
-use borrow.Author.Rules.{rules}
 use borrow.Author.Tests.{lt-leb}
 use mir.Syntax.{w64}
 use mir.Val.{to_z, of_z}
@@ -28,12 +27,12 @@ module _ (c : After-later-1) where
 pub scale_cell-requires : goal.scale_cell-requires
 scale_cell-requires c =
     let d = s c in
-    rw (to_z-of_z d.fits.v, reported_back c, c.before.reported_sum-reported.ensures) (d.requires.year.1, reported_small d.requires.year.0 d.args.j)
+    rw (to_z-of_z d.ranges.v, reported_back c, c.before.reported_sum-reported.ensures) (d.requires.year.1, reported_small d.requires.year.0 d.args.j)
 
 pub scale_cell-requires-2 : goal.scale_cell-requires-2
 scale_cell-requires-2 c =
     let d = s c.before in
-    rw (to_z-of_z d.fits.v, unreported_back c.before) (d.requires.year.1, d.requires.year.0.summed d.args.j d.requires.m_bound.1)
+    rw (to_z-of_z d.ranges.v, unreported_back c.before) (d.requires.year.1, d.requires.year.0.summed d.args.j d.requires.m_bound.1)
 
 pub returns : goal.returns
 unfolding cell_of rbns_from

@@ -1,12 +1,9 @@
-use mathlib.Core.Path.{◌≡◌, sym, ◌∙◌, ap}
+use mathlib.Core.Path.{◌≡◌}
 use mathlib.Core.List.{List}
-use Prim.Native.Nat.{ℕ, ◌+◌, ◌-◌, ◌≤◌}
-use native.Mathlib.Omega.{arith}
+use Prim.Native.Nat.{ℕ, ◌-◌, ◌≤◌}
 use lib.IntN.{ℤ, pos}
-use lib.ListN.{length, set}
 use Rattle.model.specs.Lists.{tabulate}
-use Rattle.model.specs.ListsLaws.{tabulate_last, length_tabulate}
-use Rattle.model.specs.Overlay.{overlay, overlay_none, overlay_store, length_overlay}
+use Rattle.model.specs.Overlay.{overlay}
 use Rattle.cells.proofs.write_known.Given as goal
 
 abbrev pub zeros : ℕ → List ℤ

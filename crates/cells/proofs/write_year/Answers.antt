@@ -49,7 +49,7 @@ module _ (l : At-loop-j) where
   k = l.before.before
 
   so_far : l.loop-j.out ≡ overlay k.write_known.new.out (a k).args.from (entries k (2 * l.loop-j.j))
-  so_far = rw (to_z-of_z (a k).fits.v) at l.loop-j.invariant.2
+  so_far = rw (to_z-of_z (a k).ranges.v) at l.loop-j.invariant.2
 
   same : length l.loop-j.out ≡ length (a k).args.out.now
   same =
@@ -83,7 +83,7 @@ loop-j-preserved c =
     let j = (l c).loop-j.j in
     let at = b.from + 2 * j in
     let out₀ = k.write_known.new.out in
-    let v = to_z-of_z (a k).fits.v in
+    let v = to_z-of_z (a k).ranges.v in
     let e = rw v at c.before.before.open_cell-cell.ensures in
     let cell = cell_of b.m b.v b.s.now b.p.now b.unreported.now b.i j in (
       omega arith,

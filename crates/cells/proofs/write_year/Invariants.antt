@@ -1,16 +1,7 @@
-use mathlib.Core.Path.{◌≡◌, sym, ◌∙◌, ap, ap₂}
-use mathlib.Core.List.{List}
-use Prim.Native.Nat.{ℕ, ◌+◌, ◌-◌, ◌*◌, ◌≤◌}
-use native.Mathlib.Omega.{arith}
-use lib.IntN.{ℤ}
-use lib.ListN.{length, set, length-set}
-use mir.Syntax.{w64}
-use mir.Val.{to_z, of_z}
-use mir.Facts.{to_z-of_z}
-use Rattle.model.specs.Overlay.{overlay, length_overlay}
-use Rattle.cells.specs.declared.Cell.{Cell}
-use Rattle.cells.specs.CellOf.{cell_of, first_entries}
-use Rattle.cells.specs.EntryLaws.{known_entries, length_entries, overlay_over, two_stored}
+use mathlib.Core.Path.{◌≡◌}
+use Prim.Native.Nat.{◌+◌, ◌-◌, ◌*◌, ◌≤◌}
+use Rattle.model.specs.Overlay.{overlay}
+use Rattle.cells.specs.CellOf.{first_entries}
 use Rattle.cells.proofs.write_year.Given as goal
 
 abbrev pub invariant-loop-j : goal.invariant-loop-j

@@ -2,7 +2,6 @@
 -- n years are written, the sums are those of the reporting delays that year n + 1 has not reported,
 -- and under basis 1 the weights are the shares. Assumes nothing.
 use mathlib.Core.Path.{◌≡◌, refl, sym, ◌∙◌, ap}
-use mathlib.Core.Logic.{⊎_elim}
 use mathlib.Core.List.{List}
 use Prim.Native.Nat.{ℕ, ◌+◌, ◌-◌, ◌*◌, ◌≤◌, ◌<◌}
 use native.Mathlib.Nat.{mul-le-mul_right}
@@ -24,7 +23,7 @@ use Rattle.years.proofs.cell_forecast.Goals as goal
 use Rattle.years.proofs.cell_forecast.Lts as lts
 use Rattle.years.proofs.cell_forecast.Tie as tie
 use Rattle.years.proofs.cell_forecast.Reads as reads
-use Rattle.years.proofs.cell_forecast.Goals.{At-loop-n, Joined-basis-eq1, Start}
+use Rattle.years.proofs.cell_forecast.Goals.{At-loop-n, Joined-basis-eq1, Start, then-basis-eq1, else-basis-eq1}
 
 -- the places, as the steps before a goal know them
 abbrev After-weights : Type 0
@@ -51,7 +50,7 @@ module _ (a : Start) where
 
 -- the whole sums under basis 1
 whole_is : (c : Joined-basis-eq1) → c.before.args.basis ≡ 1 → c.if-basis-eq1.whole ≡ sums c.before 0
-whole_is c b = ⊎_elim (λ w. w.4 ∙ w.3.ensures) (λ w. absurd (w.0.left b)) c.if-basis-eq1.branch
+whole_is c b = elim c.if-basis-eq1.branch [ then-basis-eq1 w ↦ w.whole-is ∙ w.whole_sums.ensures | else-basis-eq1 w ↦ absurd (w.if-basis-eq1.false b) ]
 
 module _ (l : At-loop-n) where
   abbrev a : Start
@@ -86,8 +85,8 @@ loop-n-init c =
     let b = s.args in
     let e : b.m ≡ b.m - 0 = omega arith in (
       omega arith,
-      sym (rw (no_years b.m (some s) b.v.now (weights s) b.shares.now b.t9) (overlay_none b.out-1.now 0)),
-      no_sums b.m b.shares.now b.t9 ∙ ap (sums s) e,
+      sym (rw (no_years b.m (some s) b.v.now (weights s) b.shares.now b.p) (overlay_none b.out.now 0)),
+      no_sums b.m b.shares.now b.p ∙ ap (sums s) e,
       λ _. refl,
     )
 
@@ -134,8 +133,8 @@ loop-n-preserved c =
       (rw (base_back d, weights_are w) at y.write_year.ensures)
           ∙ ap (λ (x : List ℤ). overlay l.loop-n.out place (entries l x)) l.loop-n.invariant.2
           ∙ ap (λ (o : List ℤ). overlay o place u) l.loop-n.invariant.1
-          ∙ overlay_more b.out-1.now 0 (years (a l) n) u place (omega arith) (rw (long (a l) n) (omega arith))
-          ∙ ap (overlay b.out-1.now 0) (one_more_year b.m (some (a l)) b.v.now (weights (a l)) b.shares.now b.t9 n),
+          ∙ overlay_more b.out.now 0 (years (a l) n) u place (omega arith) (rw (long (a l) n) (omega arith))
+          ∙ ap (overlay b.out.now 0) (one_more_year b.m (some (a l)) b.v.now (weights (a l)) b.shares.now b.p n),
       c.before.one_more_delay.ensures ∙ ap (sums (a l)) e,
       λ q. weights_are w ∙ estimated b.m (triangle_in 0 b.set.now) b.basis b.g.now b.latest.now (n + 1) b.shares.now q,
     )

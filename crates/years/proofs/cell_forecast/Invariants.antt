@@ -1,22 +1,9 @@
-use mathlib.Core.Path.{◌≡◌, refl, sym, ◌∙◌, ap}
-use mathlib.Core.Logic.{⊎_elim}
-use mathlib.Core.List.{List}
-use Prim.Native.Nat.{ℕ, ◌+◌, ◌-◌, ◌*◌, ◌≤◌, ◌<◌}
-use native.Mathlib.Nat.{mul-le-mul_right}
-use native.Mathlib.Omega.{arith}
-use lib.IntN.{ℤ}
-use lib.ListN.{length}
-use mir.Syntax.{w64}
-use mir.Val.{to_z, of_z}
-use mir.Facts.{to_z-of_z}
-use Rattle.model.specs.Lists.{at}
+use mathlib.Core.Path.{◌≡◌}
+use Prim.Native.Nat.{◌-◌, ◌≤◌}
 use Rattle.model.specs.Lent.{triangle_in}
-use Rattle.model.specs.Overlay.{overlay, overlay_none, overlay_more, length_overlay}
-use Rattle.cells.specs.CellOf.{sums_from, year_entries, years_entries}
-use Rattle.cells.specs.SumsFromLaws.{no_sums}
+use Rattle.model.specs.Overlay.{overlay}
+use Rattle.cells.specs.CellOf.{sums_from, years_entries}
 use Rattle.years.specs.Ready.{year_weights}
-use Rattle.years.specs.ReadyLaws.{counted, estimated, same_weights, year, shares_fit}
-use Rattle.years.specs.YearsLaws.{year_inside, all_inside, no_years, length_years, one_more_year}
 use Rattle.years.proofs.cell_forecast.Given as goal
 
 abbrev pub invariant-loop-n : goal.invariant-loop-n

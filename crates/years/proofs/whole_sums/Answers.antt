@@ -1,7 +1,7 @@
 -- `cells::years::whole_sums` meets its contract. The loop's invariant: the reporting delays from k
 -- on are summed. Assumes nothing.
 use mathlib.Core.Path.{◌≡◌, sym, ◌∙◌, ap}
-use Prim.Native.Nat.{ℕ, ◌+◌, ◌-◌, ◌≤◌}
+use Prim.Native.Nat.{ℕ, ◌+◌, ◌-◌}
 use native.Mathlib.Omega.{arith}
 use Rattle.cells.specs.CellOf.{sums_from}
 use Rattle.cells.specs.SumsFromLaws.{no_sums}

@@ -1,8 +1,6 @@
-use mathlib.Core.Path.{◌≡◌, sym, ◌∙◌, ap}
-use Prim.Native.Nat.{ℕ, ◌+◌, ◌-◌, ◌≤◌}
-use native.Mathlib.Omega.{arith}
+use mathlib.Core.Path.{◌≡◌}
+use Prim.Native.Nat.{◌≤◌}
 use Rattle.cells.specs.CellOf.{sums_from}
-use Rattle.cells.specs.SumsFromLaws.{no_sums}
 use Rattle.years.proofs.whole_sums.Given as goal
 
 abbrev pub invariant-loop-k : goal.invariant-loop-k

@@ -1,19 +1,8 @@
-use mathlib.Core.Path.{◌≡◌, sym, ◌∙◌, ap, ap₂}
-use mathlib.Core.List.{List}
-use Prim.Native.Nat.{ℕ, ◌+◌, ◌-◌, ◌*◌, ◌^◌, ◌≤◌}
-use native.Mathlib.Nat.{mul-le-mul}
-use native.Mathlib.Omega.{arith}
-use lib.IntN.{ℤ, pos, nat_abs, ◌*ℤ◌}
-use lib.ListN.{set}
-use mir.Syntax.{w64}
-use mir.Val.{SFits, to_z, of_z}
-use mir.Facts.{to_z-of_z}
-use Rattle.integers.specs.Order.{nat_abs-*ℤ}
-use Rattle.model.specs.Lent.{triangle_in, at_triangle}
-use Rattle.model.specs.Lists.{at, listed}
-use Rattle.model.specs.ListsLaws.{listed_none, listed_more}
-use Rattle.model.specs.Records.{cell}
-use Rattle.rounding.specs.Words.{fits_abs}
+use mathlib.Core.Path.{◌≡◌}
+use Prim.Native.Nat.{◌+◌, ◌-◌, ◌≤◌}
+use lib.IntN.{pos}
+use Rattle.model.specs.Lent.{triangle_in}
+use Rattle.model.specs.Lists.{listed}
 use Rattle.cells.specs.Weights.{actual_weight}
 use Rattle.years.proofs.weights.actual_weights.Given as goal
 

@@ -1,5 +1,5 @@
--- Laws of Dates: a later date has a higher number, the years by division, and anniversaries.
--- Assumes nothing.
+-- Laws of Dates: a later date has a higher number, the years by division, and anniversaries, whose
+-- distances are in YearsApart of proofs/. Assumes nothing.
 use Rattle.std.specs.Prelude.{ℕ, zero, suc, ◌+◌, ◌-◌, ◌*◌, ◌/◌, ◌%◌, ◌^◌, ◌<◌, ◌≤◌, ◌≡◌, Bool, ◌&&◌, ◌||◌, not, cond, leb, eqb, ltb, get_or}
 use Rattle.std.proofs.Math.Path.{refl}
 use Rattle.std.proofs.Common.{sym, add-zero, add-suc}
@@ -40,7 +40,7 @@ rules : (every 13 before_rule ≡ true) × (every 13 length_rule ≡ true)
 unfolding every before_rule length_rule days_before_month month_length month_days total
 rules = (refl, refl)
 
-before_leap : (k : ℕ) → k ≤ 12 → days_before_month true k ≡ days_before_month false k + cond (leb 3 k) 1 0
+pub before_leap : (k : ℕ) → k ≤ 12 → days_before_month true k ≡ days_before_month false k + cond (leb 3 k) 1 0
 unfolding before_rule
 before_leap k h = eqb-true _ _ (every_at before_rule 13 k rules.0 (omega arith))
 
@@ -93,7 +93,7 @@ total_grows n (suc k) f = rw (add-suc n k) (omega (arith, total_grows n k f))
 total_most : (n k : ℕ) (f : ℕ → ℕ) → n ≤ k → total n f ≤ total k f
 total_most n k f h = let e : k ≡ n + (k - n) = omega arith in rw e (total_grows n (k - n) f)
 
-year_more : (y : ℕ) → days_before_year (suc y) ≡ days_before_year y + year_length (leap y)
+pub year_more : (y : ℕ) → days_before_year (suc y) ≡ days_before_year y + year_length (leap y)
 unfolding days_before_year total
 year_more y = refl
 
@@ -243,34 +243,6 @@ years_few y h = omega (arith, years_by_division y)
 pub record YearApart (m n : ℕ) : Type 0 where
   pub least : m + 365 ≤ n
   pub most : n ≤ m + 366
-
--- of a date's month and day in a year that begins after D days and in the next; l and m say whether
--- these are leap years
-module _ (D k day : ℕ) where
-  other_day : (l m : Bool) → k ≤ 12 → YearApart (D + days_before_month l k + day) (D + year_length l + days_before_month m k + day)
-  unfolding year_length
-  other_day true true h = omega arith
-  other_day false false h = omega arith
-  other_day true false h = let b = before_leap k (omega arith) in by-test (leb 3 k) (λ t. let c = rw t at b in omega arith) (λ t. let c = rw t at b in omega arith)
-  other_day false true h = let b = before_leap k (omega arith) in by-test (leb 3 k) (λ t. let c = rw t at b in omega arith) (λ t. let c = rw t at b in omega arith)
-
-  february_29 : (l m : Bool) → k ≡ 2 → day ≡ 29 → YearApart (D + days_before_month l k + cond (not l) 28 day) (D + year_length l + days_before_month m k + cond (not m) 28 day)
-  unfolding year_length
-  february_29 true true e f = omega arith
-  february_29 false false e f = omega arith
-  february_29 true false e f = let b = rw e at (before_leap k (omega arith)) in rw e (omega arith)
-  february_29 false true e f = let b = rw e at (before_leap k (omega arith)) in rw e (omega arith)
-
-  apart : (c l m : Bool) → (eqb k 2 && eqb day 29) ≡ c → k ≤ 12
-      → YearApart (D + days_before_month l k + cond (c && not l) 28 day) (D + year_length l + days_before_month m k + cond (c && not m) 28 day)
-  apart true l m e h = february_29 l m (eqb-true k 2 (and_left _ _ e)) (eqb-true day 29 (and_right (eqb k 2) _ e))
-  apart false l m e h = other_day l m h
-
-pub anniversaries_apart : (d : Date) (t : ℕ) → is_date d ≡ true → YearApart (day_number (anniversary d t)) (day_number (anniversary d (suc t)))
-unfolding day_number anniversary anniversary_day
-anniversaries_apart d t e =
-    let y : d.year + suc t ≡ suc (d.year + t) = omega arith in
-    rw (y, year_more (d.year + t)) (apart (days_before_year (d.year + t)) d.month d.day _ (leap (d.year + t)) (leap (suc (d.year + t))) refl (possible d e).high)
 
 -- an anniversary is a date
 module _ (k day : ℕ) where

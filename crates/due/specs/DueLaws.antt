@@ -17,7 +17,7 @@ use Rattle.model.specs.declared.Date.{Date}
 use Rattle.rounding.specs.RoundingLaws.{r_exact, r_abs}
 use Rattle.tally.specs.YearSums.{below_fits}
 use Rattle.tally.specs.YearRows.{Modest}
-use Rattle.dates.specs.DatesLaws.{anniversaries_apart}
+use Rattle.dates.proofs.YearsApart.{anniversaries_apart}
 use Rattle.forecast_years.specs.YearsLaws.{InYear, years_are, starts_most}
 
 -- ---- how large

@@ -9,7 +9,7 @@ use Rattle.model.specs.Lists.{at}
 use Rattle.model.specs.Records.{set_of, has_incurred}
 use Rattle.model.specs.Shares.{b_list}
 use Rattle.model.specs.Delays.{delays, delays_of}
-use Rattle.model.specs.CellsLaws.{same_output}
+use Rattle.model.proofs.SameDelays.{same_output}
 use Rattle.model.specs.Questions.{Question, q6, q7, q12, q20, first_no, of_records, of_file, of_shares, of_delays, of_given_delays, of_method, of_forecast, of_forecast_with}
 use Rattle.model.specs.QuestionsLaws.{numbered, passed_over}
 use Rattle.model.specs.Calls.{if_accepted, call_refusal, read_refusal, delays_refusal, delays_answer, check_delays_refusal, forecast_refusal, forecast_answer, forecast_output, forecast_with_refusal, forecast_with_answer, forecast_with_output}

@@ -13,7 +13,8 @@ use Rattle.model.specs.Dates.{is_date, day_number, anniversary}
 use Rattle.model.specs.Cash.{year_start, years_before}
 use Rattle.model.specs.Questions.{is_valuation, in_years, q19}
 use Rattle.model.specs.declared.Date.{Date}
-use Rattle.dates.specs.DatesLaws.{by_year, number_rises, anniversaries_apart, anniversary_is_date, anniversary_zero}
+use Rattle.dates.specs.DatesLaws.{by_year, number_rises, anniversary_is_date, anniversary_zero}
+use Rattle.dates.proofs.YearsApart.{anniversaries_apart}
 
 -- what question 19 says of a valuation date
 pub record Valued (v : Date) : Type 0 where

@@ -14,7 +14,7 @@ use Rattle.model.specs.Shares.{g_list, b_list}
 use Rattle.model.specs.Delays.{delays, delays_of, solves_at}
 use Rattle.model.specs.RowBases.{row_base}
 use Rattle.model.specs.Cells.{s_list, rbns, ibnr, output_from}
-use Rattle.model.specs.CellsLaws.{same_output}
+use Rattle.model.proofs.SameDelays.{same_output}
 use Rattle.model.specs.PaidReserve.{NearReserves}
 use Rattle.paid_reserve.specs.Demand3.{own_solve, demand_3}
 use Rattle.model.specs.Questions.{Question, q6, q12, q20, first_no, of_shares, of_delays, of_given_delays, of_method, of_forecast}

@@ -1,4 +1,6 @@
 // The forecast years of a valuation date (02, Job 5), and question 19.
+#![tactic(auto)]
+
 ghost use Rattle.std.specs.Prelude.{◌≡◌, true, ◌≤◌};
 ghost use Rattle.model.specs.Dates.{is_date, day_number};
 ghost use Rattle.model.specs.Cash.{year_start};

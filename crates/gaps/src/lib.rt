@@ -1,6 +1,8 @@
 // The gaps of a back-test (01, Back-test): forecast less paid, of each cell that is compared; and
 // their sums. They serve any number of later years: with n + 1 in the place of m the gaps are those
 // of the one year after a set of size n.
+#![tactic(auto)]
+
 pub mod errors;
 
 ghost use Rattle.std.specs.Prelude.{◌≡◌, ℕ, ◌+◌, ◌-◌, ◌*◌, ◌^◌, ◌≤◌, ◌<◌, ℤ, pos, nat_abs};

@@ -1,5 +1,4 @@
 -- `dates::window::is_valuation` meets its contract. Assumes nothing.
-use borrow.Author.Rules.{rules}
 use borrow.Author.Tests.{le-leb, lt-leb}
 use Rattle.model.specs.Questions.{is_valuation}
 use Rattle.model.specs.Tests.{refused, passed}

@@ -1,5 +1,4 @@
 -- `dates::window::q19` meets its contract. Assumes nothing.
-use borrow.Author.Rules.{rules}
 use mathlib.Core.Path.{◌≡◌, ◌∙◌}
 use mathlib.Core.Bool.{true}
 use Rattle.model.specs.Dates.{is_date}

@@ -1,15 +1,15 @@
 -- `gaps::gaps` meets its contract: the gaps of the first k years are made, and the sums are those
 -- over the claims that year k + 1 has not reported. Assumes nothing.
 use mathlib.Core.Path.{◌≡◌, refl, ◌∙◌, ap}
-use mathlib.Core.Logic.{⊎_elim, inl}
+use mathlib.Core.Logic.{inl}
 use mathlib.Core.List.{List}
-use Prim.Native.Nat.{ℕ, ◌+◌, ◌-◌, ◌*◌, ◌/◌, ◌%◌, ◌≤◌, ◌<◌}
+use Prim.Native.Nat.{ℕ, ◌+◌, ◌-◌, ◌*◌, ◌/◌, ◌%◌, ◌<◌}
 use native.Mathlib.Omega.{arith}
 use lib.IntN.{ℤ, pos}
 use mir.Syntax.{w64}
 use mir.Val.{to_z, of_z}
 use mir.Facts.{to_z-of_z}
-use Rattle.model.specs.Lists.{at, listed}
+use Rattle.model.specs.Lists.{at}
 use Rattle.model.specs.ListsLaws.{listed_none, listed_whole}
 use Rattle.model.specs.Lent.{triangle_in}
 use Rattle.cells.specs.declared.Cell.{Cell}
@@ -24,7 +24,7 @@ use Rattle.gaps.proofs.gaps.Goals as goal
 use Rattle.gaps.proofs.gaps.Lts as lts
 use Rattle.gaps.proofs.gaps.Tie as tie
 use Rattle.gaps.proofs.gaps.Reads as reads
-use Rattle.gaps.proofs.gaps.Goals.{At-loop-k, Joined-basis-eq1, Start}
+use Rattle.gaps.proofs.gaps.Goals.{At-loop-k, Joined-basis-eq1, Start, then-basis-eq1, else-basis-eq1}
 
 -- the places, as the steps before a goal know them
 abbrev After-row_gaps-arg-in-loop-k-1 : Type 0
@@ -57,7 +57,7 @@ cell_of_lem n k j t basis b g latest v p h e f q = let z : k + 1 - 1 ≡ k = ome
 
 -- the whole sums under basis 1
 whole_is : (c : Joined-basis-eq1) → c.before.args.basis ≡ 1 → c.if-basis-eq1.whole ≡ sums c.before 0
-whole_is c b = ⊎_elim (λ w. w.3 ∙ w.2.ensures) (λ w. absurd (w.0.left b)) c.if-basis-eq1.branch
+whole_is c b = elim c.if-basis-eq1.branch [ then-basis-eq1 w ↦ w.whole-is ∙ w.whole_sums.ensures | else-basis-eq1 w ↦ absurd (w.if-basis-eq1.false b) ]
 
 pub loop-k-init : goal.loop-k-init
 loop-k-init c =

@@ -1,23 +1,10 @@
-use mathlib.Core.Path.{◌≡◌, refl, ◌∙◌, ap}
-use mathlib.Core.Logic.{⊎_elim, inl}
-use mathlib.Core.List.{List}
-use Prim.Native.Nat.{ℕ, ◌+◌, ◌-◌, ◌*◌, ◌/◌, ◌%◌, ◌≤◌, ◌<◌}
-use native.Mathlib.Omega.{arith}
-use lib.IntN.{ℤ, pos}
-use mir.Syntax.{w64}
-use mir.Val.{to_z, of_z}
-use mir.Facts.{to_z-of_z}
-use Rattle.model.specs.Lists.{at, listed}
-use Rattle.model.specs.ListsLaws.{listed_none, listed_whole}
+use mathlib.Core.Path.{◌≡◌}
+use Prim.Native.Nat.{◌-◌, ◌*◌, ◌≤◌}
+use lib.IntN.{pos}
+use Rattle.model.specs.Lists.{listed}
 use Rattle.model.specs.Lent.{triangle_in}
-use Rattle.cells.specs.declared.Cell.{Cell}
-use Rattle.cells.specs.CellOf.{sums_from, cell_of}
-use Rattle.years.specs.Ready.{year_weights}
-use Rattle.cells.specs.SumsFromLaws.{no_sums}
-use Rattle.years.specs.ReadyLaws.{counted, estimated, same_weights, year, shares_fit}
-use Rattle.gaps.specs.Gaps as Gaps
+use Rattle.cells.specs.CellOf.{sums_from}
 use Rattle.gaps.specs.Gaps.{cell_from, gap_at}
-use Rattle.gaps.specs.GapsLaws.{not_compared, listed_skip}
 use Rattle.gaps.proofs.gaps.Given as goal
 
 abbrev pub invariant-loop-k : goal.invariant-loop-k

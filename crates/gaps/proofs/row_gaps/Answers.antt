@@ -57,7 +57,7 @@ module _ (a : Start) where
       ap f e ∙ r (q - 20 * (i - 1)) (omega arith) ∙ none (q - 20 * (i - 1)) (omega arith) (omega arith))
 
   back : to_z w64 (of_z w64 a.args.v) ≡ a.args.v
-  back = to_z-of_z a.fits.v
+  back = to_z-of_z a.ranges.v
 
 pub loop-j-init : goal.loop-j-init
 loop-j-init c =
@@ -162,7 +162,7 @@ loop-j-preserved c =
     let h = inside (here (b c)) in (
       omega (arith, l.loop-j.invariant.0),
       omega (arith, h),
-      λ f d r. rw q (listed_next 400 (20 * (i s - 1) + j) f (pos 0) (omega (arith, h)) (l.loop-j.invariant.2 f d r) (to_z-of_z (rw (gap_is c) (gap_fits c)) ∙ gap_is c ∙ sym ((rw (back s) at r) j (omega (arith, h))))),
+      λ f d r. rw q (listed_next 400 (20 * (i s - 1) + j) f (pos 0) (omega (arith, h)) (l.loop-j.invariant.2 f d r) (to_z-of_z {w = w64} (rw (gap_is c) (gap_fits c)) ∙ gap_is c ∙ sym ((rw (back s) at r) j (omega (arith, h))))),
     )
 
 pub returns : goal.returns

@@ -1,26 +1,11 @@
-use mathlib.Core.Path.{◌≡◌, sym, ◌∙◌, ap, ap₂}
-use mathlib.Core.Logic.{◌⊎◌, ⊎_elim, inl, inr}
-use borrow.Author.Tests.{leb-true, leb-false}
-use lib.Dec.{leb}
-use Rattle.model.specs.Tests.{by-test}
+use mathlib.Core.Path.{◌≡◌}
 use mathlib.Core.List.{List}
-use Prim.Native.Nat.{ℕ, ◌+◌, ◌-◌, ◌*◌, ◌^◌, ◌≤◌, ◌<◌, min}
-use native.Mathlib.Omega.{arith}
-use lib.IntN.{ℤ, pos, nat_abs, ◌+ℤ◌, ◌-ℤ◌}
-use mir.Syntax.{w64}
-use mir.Val.{SFits, to_z, of_z}
-use mir.Facts.{to_z-of_z}
-use Rattle.integers.specs.Order.{nat_abs-+ℤ}
-use Rattle.model.specs.Lists.{at, listed}
-use Rattle.model.specs.ListsLaws.{listed_next}
-use Rattle.model.specs.Records.{cell}
-use Rattle.model.specs.Lent.{triangle_in, at_triangle}
-use Rattle.rounding.specs.Words.{fits_abs}
-use Rattle.cells.specs.declared.Cell.{Cell}
+use Prim.Native.Nat.{ℕ, ◌+◌, ◌-◌, ◌*◌, ◌≤◌, ◌<◌}
+use lib.IntN.{ℤ, pos}
+use Rattle.model.specs.Lists.{listed}
+use Rattle.model.specs.Lent.{triangle_in}
 use Rattle.cells.specs.CellOf.{cell_of}
-use Rattle.cells.specs.SmallLaws.{cell_small}
 use Rattle.gaps.specs.Gaps.{gap_from}
-use Rattle.gaps.specs.GapsLaws.{not_compared, is_compared, listed_skip, gap_small}
 use Rattle.gaps.proofs.row_gaps.Given as goal
 
 -- f holds the row's gaps

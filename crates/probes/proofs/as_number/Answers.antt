@@ -5,7 +5,7 @@ use Rattle.probes.specs.Probes.{as_number}
 use Rattle.probes.proofs.as_number.Goals as goal
 
 pub returns-in-Within : goal.returns-in-Within
-returns-in-Within c = rw c.before.before.k-1.given.1 (search rules)
+returns-in-Within c = rw c.in-Within.is (search rules)
 
 pub returns-in-TooLarge : goal.returns-in-TooLarge
-returns-in-TooLarge c = sym (ap as_number c.before.enum_told-1.given.1)
+returns-in-TooLarge c = sym (ap as_number c.in-TooLarge.is)

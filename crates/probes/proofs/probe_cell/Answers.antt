@@ -4,7 +4,6 @@ use mathlib.Core.Path.{◌≡◌, ◌∙◌}
 use mathlib.Core.Bool.{true}
 use Prim.Native.Nat.{◌*◌, ◌^◌}
 use mir.Facts.{to_z-of_z}
-use borrow.Author.Rules.{rules}
 use Rattle.model.specs.Tests.{refused, passed}
 use Rattle.probes.specs.Probes.{up_to, cell}
 use Rattle.probes.proofs.Tests.{up_to_is}

@@ -6,7 +6,6 @@ use Prim.Native.Nat.{◌*◌, ◌^◌}
 use lib.Dec.{lit<}
 use lib.IntN.{pos}
 use mir.Facts.{to_z-of_z}
-use borrow.Author.Rules.{rules}
 use Rattle.model.specs.Questions.{within}
 use Rattle.model.specs.Tests.{refused, passed}
 use Rattle.probes.specs.Probes.{up_to, round_div}

@@ -1,9 +1,7 @@
 -- `errors::cell_number` meets its contract: the calendar years so far are summed. Assumes nothing.
 use mathlib.Core.Path.{◌≡◌}
-use Prim.Native.Nat.{suc, ◌-◌, ◌≤◌}
+use Prim.Native.Nat.{suc, ◌-◌}
 use native.Mathlib.Omega.{arith}
-use borrow.Author.Rules.{rules}
-use Rattle.model.specs.Lists.{total}
 use Rattle.model.specs.BackTest.{cell_number}
 use Rattle.gaps.specs.ErrorsLaws.{total_none, total_more, twenty}
 use Rattle.gaps.proofs.errors.cell_number.Goals as goal

@@ -1,10 +1,6 @@
 use mathlib.Core.Path.{◌≡◌}
 use Prim.Native.Nat.{suc, ◌-◌, ◌≤◌}
-use native.Mathlib.Omega.{arith}
-use borrow.Author.Rules.{rules}
 use Rattle.model.specs.Lists.{total}
-use Rattle.model.specs.BackTest.{cell_number}
-use Rattle.gaps.specs.ErrorsLaws.{total_none, total_more, twenty}
 use Rattle.gaps.proofs.errors.cell_number.Given as goal
 
 abbrev pub invariant-loop-k : goal.invariant-loop-k

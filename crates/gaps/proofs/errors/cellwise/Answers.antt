@@ -1,10 +1,6 @@
 -- `errors::cellwise` meets its contract: the rows so far are summed. Assumes nothing.
 use mathlib.Core.Path.{◌≡◌}
-use Prim.Native.Nat.{suc, ◌-◌, ◌≤◌}
 use native.Mathlib.Omega.{arith}
-use lib.IntN.{nat_abs}
-use Rattle.model.specs.Lists.{total}
-use Rattle.model.specs.Records.{cell}
 use Rattle.model.specs.BackTest.{cellwise}
 use Rattle.gaps.specs.ErrorsLaws.{total_none, total_more, row_small, cells_small}
 use Rattle.gaps.proofs.errors.cellwise.Goals as goal

@@ -1,5 +1,5 @@
 -- `errors::row_gap` meets its contract: the cells so far are summed. Assumes nothing.
-use mathlib.Core.Path.{◌≡◌, ◌∙◌, ap}
+use mathlib.Core.Path.{◌≡◌, sym, ◌∙◌, ap}
 use mathlib.Core.List.{List}
 use Prim.Native.Nat.{ℕ, suc, ◌+◌, ◌-◌, ◌*◌, ◌≤◌, ◌<◌}
 use native.Mathlib.Omega.{arith}
@@ -7,11 +7,11 @@ use lib.IntN.{ℤ, ◌+ℤ◌}
 use mir.Syntax.{w64}
 use mir.Val.{SFits, to_z, of_z}
 use mir.Facts.{to_z-of_z}
-use Rattle.integers.specs.Sums.{sum}
+use Rattle.integers.specs.Sums.{sum, sum_zero}
 use Rattle.model.specs.Lists.{at}
 use Rattle.model.specs.Records.{cell}
 use Rattle.rounding.specs.Words.{fits_abs}
-use Rattle.rounding.specs.Running.{sum_none, held, sum_more}
+use Rattle.rounding.specs.Running.{sum_add}
 use Rattle.gaps.specs.Gaps.{SmallGaps}
 use Rattle.gaps.specs.ErrorsLaws.{row_gap_small}
 use Rattle.gaps.proofs.errors.row_gap.Goals as goal
@@ -33,7 +33,7 @@ module _ (c : After-x-1) where
   added : to_z w64 c.before.before.loop-j.out-bits +ℤ to_z w64 (of_z w64 (at start.args.d.now (20 * k + j))) ≡ sum (j + 1) (λ j. cell start.args.d.now (suc k) j)
   added =
       let e : 20 * k + j ≡ 20 * (suc k - 1) + j = omega arith in
-      sum_more j _ c.before.before.loop-j.invariant.1 (part_fits _ start.args.n k j start.requires.0 start.requires.1 start.requires.2 (omega arith))
+      sum_add j _ c.before.before.loop-j.invariant.1
       (to_z-of_z {w = w64} (record { sfits = c.x-1.given }) ∙ ap (at start.args.d.now) e)
 
 pub overflow_add-out : goal.overflow_add-out
@@ -43,10 +43,10 @@ pub returns : goal.returns
 returns c =
     let s = c.before.before in
     let e : c.before.loop-j.j ≡ s.args.n = omega arith in
-    rw e at (held c.before.loop-j.invariant.1 (part_fits _ s.args.n s.args.k c.before.loop-j.j s.requires.0 s.requires.1 s.requires.2 (omega arith)))
+    rw e at c.before.loop-j.invariant.1
 
 pub loop-j-init : goal.loop-j-init
-loop-j-init c = (omega arith, sum_none _)
+loop-j-init c = (omega arith, sym (sum_zero _))
 
 pub overflow_mul-x : goal.overflow_mul-x
 overflow_mul-x c = omega arith
@@ -67,4 +67,4 @@ pub loop-j-smaller : goal.loop-j-smaller
 loop-j-smaller c = omega arith
 
 pub loop-j-preserved : goal.loop-j-preserved
-loop-j-preserved c = (omega arith, ap (of_z w64) (added c))
+loop-j-preserved c = (omega arith, to_z-of_z {w = w64} (overflow_add-out c) ∙ added c)

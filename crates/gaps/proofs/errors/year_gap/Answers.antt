@@ -1,16 +1,16 @@
 -- `errors::year_gap` meets its contract: the rows so far are summed. Assumes nothing.
-use mathlib.Core.Path.{◌≡◌, ◌∙◌, ap}
+use mathlib.Core.Path.{◌≡◌, sym, ◌∙◌}
 use mathlib.Core.List.{List}
-use Prim.Native.Nat.{ℕ, ◌+◌, ◌-◌, ◌≤◌}
+use Prim.Native.Nat.{ℕ, ◌+◌, ◌≤◌}
 use native.Mathlib.Omega.{arith}
 use lib.IntN.{ℤ, ◌+ℤ◌}
 use mir.Syntax.{w64}
 use mir.Val.{SFits, to_z, of_z}
 use mir.Facts.{to_z-of_z}
-use Rattle.integers.specs.Sums.{sum}
+use Rattle.integers.specs.Sums.{sum, sum_zero}
 use Rattle.model.specs.BackTest.{year_gap}
 use Rattle.rounding.specs.Words.{fits_abs}
-use Rattle.rounding.specs.Running.{sum_none, held, sum_more}
+use Rattle.rounding.specs.Running.{sum_add}
 use Rattle.gaps.specs.Gaps.{SmallGaps, row_in_year}
 use Rattle.gaps.specs.ErrorsLaws.{year_small}
 use Rattle.gaps.proofs.errors.year_gap.Goals as goal
@@ -31,7 +31,7 @@ module _ (c : After-row_in_year-x) where
 
   added : to_z w64 c.before.before.loop-k.out-bits +ℤ to_z w64 (of_z w64 c.row_in_year-x.result) ≡ sum (k + 1) (λ k. row_in_year start.args.d.now start.args.n k end)
   added =
-      sum_more k _ c.before.before.loop-k.invariant.1 (part_fits _ start.args.n end k start.requires.0 start.requires.1 (omega arith))
+      sum_add k _ c.before.before.loop-k.invariant.1
       (to_z-of_z {w = w64} (record { sfits = c.row_in_year-x.type_inv }) ∙ c.row_in_year-x.ensures)
 
 pub overflow_add-out : goal.overflow_add-out
@@ -42,10 +42,10 @@ unfolding year_gap
 returns c =
     let s = c.before.before in
     let e : c.before.loop-k.k ≡ s.args.n = omega arith in
-    rw e at (held c.before.loop-k.invariant.1 (part_fits _ s.args.n (s.args.n + s.args.t) c.before.loop-k.k s.requires.0 s.requires.1 (omega arith)))
+    rw e at c.before.loop-k.invariant.1
 
 pub loop-k-init : goal.loop-k-init
-loop-k-init c = (omega arith, sum_none _)
+loop-k-init c = (omega arith, sym (sum_zero _))
 
 pub overflow_add-n : goal.overflow_add-n
 overflow_add-n c = omega arith
@@ -60,4 +60,4 @@ pub loop-k-smaller : goal.loop-k-smaller
 loop-k-smaller c = omega arith
 
 pub loop-k-preserved : goal.loop-k-preserved
-loop-k-preserved c = (omega arith, ap (of_z w64) (added c))
+loop-k-preserved c = (omega arith, to_z-of_z {w = w64} (overflow_add-out c) ∙ added c)

@@ -1,14 +1,12 @@
 -- `errors::yearwise` meets its contract: the calendar years so far are summed. Assumes nothing.
 use mathlib.Core.Path.{◌≡◌, ◌∙◌, ap}
-use Prim.Native.Nat.{ℕ, suc, ◌-◌, ◌*◌, ◌^◌, ◌≤◌}
+use Prim.Native.Nat.{ℕ, suc, ◌*◌, ◌^◌, ◌≤◌}
 use native.Mathlib.Numerals.{add-one}
 use native.Mathlib.Omega.{arith}
-use borrow.Author.Rules.{rules}
 use lib.IntN.{ℤ, nat_abs}
 use mir.Syntax.{w64}
 use mir.Val.{to_z, of_z}
 use mir.Facts.{to_z-of_z}
-use Rattle.model.specs.Lists.{total}
 use Rattle.model.specs.Records.{cell}
 use Rattle.model.specs.BackTest.{year_gap, yearwise}
 use Rattle.gaps.specs.ErrorsLaws.{total_none, total_more, gap_small, years_small}

@@ -15,8 +15,9 @@ use Rattle.model.specs.SetFile.{file_of}
 use Rattle.model.specs.Calls.{accepted_read, read_refusal, read_answer}
 use Rattle.model.specs.Lengths.{kinds_range, size_so, length_yes, set_least}
 use Rattle.records.specs.OneRecord.{well_formed, q3_formed, line_so}
-use Rattle.writer.specs.Written.{lent_kind, set_bytes, file_bytes}
-use Rattle.writer.specs.WrittenLaws.{in_kind_lem, length_kinds, third, fourth, fifth, triangle_held, triangle_none}
+use Rattle.writer.specs.Written.{lent_kind, set_bytes}
+use Rattle.writer.proofs.FileBytes.{file_bytes}
+use Rattle.writer.proofs.WrittenLaws.{in_kind_lem, length_kinds, third, fourth, fifth, triangle_held, triangle_none}
 
 module _ (m v : ℕ) (c d e : List ℤ) (size : q1 m ≡ true) where
   -- the file, as the bytes of the lists

@@ -1,2 +1,4 @@
 pub mod Words
 pub mod Chained
+pub mod FileBytes
+pub mod WrittenLaws

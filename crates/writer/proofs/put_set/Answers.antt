@@ -11,7 +11,8 @@ use Rattle.model.specs.Overlay.{overlay}
 use Rattle.model.specs.Questions.{kinds}
 use Rattle.model.specs.SetFile.{file_of}
 use Rattle.model.specs.Lengths.{kinds_range}
-use Rattle.writer.specs.Written.{lent_kind, kind_bytes, set_bytes, file_bytes}
+use Rattle.writer.specs.Written.{lent_kind, kind_bytes, set_bytes}
+use Rattle.writer.proofs.FileBytes.{file_bytes}
 use Rattle.writer.proofs.Chained.{Filled, filled_none, filled_room, filled_next}
 use Rattle.writer.proofs.put_set.Goals as goal
 use Rattle.writer.proofs.put_set.Goals.{After-put_kind-second, After-put_kind-third, Start}

@@ -9,7 +9,7 @@ use Rattle.model.specs.Records.{cell}
 use Rattle.model.specs.Overlay.{overlay}
 use Rattle.model.specs.SetFile.{word, record_of}
 use Rattle.writer.specs.Written.{cell_bytes, year_bytes}
-use Rattle.writer.specs.WrittenLaws.{length_record}
+use Rattle.writer.proofs.WrittenLaws.{length_record}
 use Rattle.writer.proofs.Chained.{Filled, filled_room, filled_none, filled_next}
 use Rattle.writer.proofs.put_year.Goals as goal
 

@@ -11,7 +11,9 @@ use Rattle.forecast.proofs.forecast_into.Goals as goal
 
 pub returns : goal.returns
 unfolding forecast_refusal forecast_answer forecast_output of_forecast of_either asks_delays either_delays delays_of
-returns c = c.before.before.forecast_file.ensures
+returns c =
+    let w = c.forecast_file.ensures in
+    record { value = w.0; leftovers_after = w.1.0; out_after = w.1.1.0; near_reserves = w.1.1.1 }
 
 pub slice_bounds-forecast_file-end : goal.slice_bounds-forecast_file-end
 slice_bounds-forecast_file-end c = refl

@@ -15,4 +15,4 @@ returns c =
     let w = c.before.before.before.before in
     let a = w.before.before.before.before.args in
     let e = w.forecast_with_delays_into-refusal.ensures in
-    record { result = by_value a.m a.file.now a.method a.basis true a.delays.now a.out-1.now e c.before.store_line.ensures; output = e.out_after; reserve = e.near_reserves }
+    record { result = by_value a.m a.file.now a.method a.basis true a.delays.now a.out.now (e.value, (e.leftovers_after, (e.out_after, e.near_reserves))) c.before.store_line.ensures; output = e.out_after; reserve = e.near_reserves }

@@ -9,7 +9,9 @@ use Rattle.forecast.proofs.forecast_with_delays_into.Goals as goal
 
 pub returns : goal.returns
 unfolding forecast_with_refusal forecast_with_answer forecast_with_output of_forecast_with of_either asks_delays either_delays
-returns c = c.before.before.forecast_file.ensures
+returns c =
+    let w = c.forecast_file.ensures in
+    record { value = w.0; leftovers_after = w.1.0; out_after = w.1.1.0; near_reserves = w.1.1.1 }
 
 pub forecast_file-requires : goal.forecast_file-requires
 forecast_file-requires c = tt

@@ -20,13 +20,13 @@ use Rattle.forecast.proofs.read_to_forecast.Goals.{Start}
 
 -- the places, as the steps before a goal know them
 abbrev After-q6 : Type 0
-After-q6 = lts.After-q6 tie.the-claims reads.Pre reads.Post tie.handed_clauses
+After-q6 = lts.After-q6 tie.the-claims reads.Pre reads.Post
 
 abbrev After-read_cells-refusal : Type 0
-After-read_cells-refusal = lts.After-read_cells tie.the-claims reads.Pre reads.Post tie.handed_clauses
+After-read_cells-refusal = lts.After-read_cells tie.the-claims reads.Pre reads.Post
 
 abbrev Else-refusal-ne0 : Type 0
-Else-refusal-ne0 = lts.Else1 tie.the-claims reads.Pre reads.Post tie.handed_clauses
+Else-refusal-ne0 = lts.Else1 tie.the-claims reads.Pre reads.Post
 
 module _ (c : After-read_cells-refusal) where
   abbrev start : Start

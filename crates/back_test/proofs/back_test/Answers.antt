@@ -21,13 +21,13 @@ use Rattle.back_test.proofs.back_test.Goals.{Start}
 
 -- the places, as the steps before a goal know them
 abbrev After-read_to_forecast-refusal : Type 0
-After-read_to_forecast-refusal = lts.After-read_to_forecast tie.the-claims reads.Pre reads.Post tie.handed_clauses
+After-read_to_forecast-refusal = lts.After-read_to_forecast tie.the-claims reads.Pre reads.Post
 
 abbrev Else-m-c : Type 0
-Else-m-c = lts.Else3 tie.the-claims reads.Pre reads.Post tie.handed_clauses
+Else-m-c = lts.Else3 tie.the-claims reads.Pre reads.Post
 
 abbrev Else-refusal-ne0 : Type 0
-Else-refusal-ne0 = lts.Else1 tie.the-claims reads.Pre reads.Post tie.handed_clauses
+Else-refusal-ne0 = lts.Else1 tie.the-claims reads.Pre reads.Post
 
 module _ (c : After-read_to_forecast-refusal) where
   abbrev start : Start

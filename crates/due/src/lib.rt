@@ -1,4 +1,6 @@
 // What of a tally falls due before a date (02, Job 5).
+#![tactic(auto)]
+
 ghost use Rattle.std.specs.Prelude.{◌≡◌, true, ℕ, ◌*◌, ◌^◌, ◌≤◌, nat_abs};
 ghost use Rattle.model.specs.Lists.{at};
 ghost use Rattle.model.specs.Dates.{is_date, day_number};

@@ -4,7 +4,7 @@ use mathlib.Core.Path.{◌≡◌, sym, ◌∙◌, ap₂}
 use mathlib.Core.Bool.{true}
 use Prim.Native.Nat.{ℕ, ◌-◌, ◌*◌, ◌^◌, ◌≤◌, ◌<◌}
 use native.Mathlib.Omega.{arith}
-use borrow.Author.Rules.{rules, sfits_of}
+use borrow.Author.Rules.{sfits_of}
 use lib.IntN.{ℤ, pos, nat_abs}
 use mir.Syntax.{w64}
 use mir.Val.{to_z, of_z}
@@ -100,7 +100,9 @@ small y full total passed days =
     )
 
 pub round_share-requires : goal.round_share-requires
-round_share-requires c = small (year c) (full_is c) (total_is c) (passed_back (year c)) (days_back (year c))
+round_share-requires c =
+    let s = small (year c) (full_is c) (total_is c) (passed_back (year c)) (days_back (year c)) in
+    record { pos = s.0; whole_bound = s.1 }
 
 pub returns : goal.returns
 unfolding due_in_year

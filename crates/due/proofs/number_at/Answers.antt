@@ -1,6 +1,6 @@
 -- `cash::number_at` meets its contract. Assumes nothing.
 use mir.Syntax.{w64}
-use borrow.Author.Rules.{rules, sfits_of}
+use borrow.Author.Rules.{sfits_of}
 use lib.IntN.{pos}
 use lib.ListN.{get_or-eq_default}
 use mathlib.Core.Path.{sym}

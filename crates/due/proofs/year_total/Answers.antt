@@ -1,6 +1,6 @@
 -- `cash::year_total` meets its contract. Assumes nothing.
 use native.Mathlib.Omega.{arith}
-use borrow.Author.Rules.{rules, sfits_of}
+use borrow.Author.Rules.{sfits_of}
 use mathlib.Core.Path.{◌≡◌, ◌∙◌, ap₂}
 use lib.IntN.{ℤ, ◌+ℤ◌}
 use mir.Syntax.{w64}

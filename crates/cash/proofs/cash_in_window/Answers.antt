@@ -181,7 +181,7 @@ pub tally_of-t-requires : goal.tally_of-t-requires
 tally_of-t-requires c =
     let w = made (set_made c.before.before) in
     let s = small w (set_made c.before.before).if-refusal-ne0-2.false in
-    (s.0, s.1, omega (arith, s.2, w.forecast_set-refusal.kept), s.3)
+    (s.0, s.1, omega (arith, s.2, w.forecast_set-refusal.auto), s.3)
 
 module _ (c : After-tally_of-t) where
   abbrev dates : Else-not-q19
@@ -201,22 +201,22 @@ module _ (c : After-tally_of-t) where
 
 pub due_before-due-requires : goal.due_before-due-requires
 due_before-due-requires c =
-    let y = c.before.before.before.before in
+    let y = c.before.before.before in
     let w = is_window (dates y) in
     record { modest = modest y; valuation_value = (w.valuation, w.end_date); valuation_bound = (omega (arith, w.after_valuation, w.ordered), omega (arith, w.ends_within, last (dates y))) }
 
 pub due_before-before-requires : goal.due_before-before-requires
 due_before-before-requires c =
-    let y = c.before.before.before.before.before.before.before.before in
+    let y = c.before.before.before.before.before.before in
     let w = is_window (dates y) in
     record { modest = modest y; valuation_value = (w.valuation, w.start_date); valuation_bound = (w.after_valuation, omega (arith, w.starts_within, last (dates y))) }
 
 module _ (c : After-due_before-before) where
   abbrev first : After-due_before-due
-  first = c.before.before.before.before
+  first = c.before.before.before
 
   abbrev tallied : After-tally_of-t
-  tallied = first.before.before.before.before
+  tallied = first.before.before.before
 
   abbrev x : After-read_to_forecast-refusal
   x = asked (dates tallied)
@@ -226,7 +226,7 @@ module _ (c : After-due_before-before) where
 
   due_end : to_z w64 (of_z w64 first.due_before-due.result) ≡ due_before years (t tallied) (v x) (day_number (b x))
   due_end =
-      to_z-of_z {w = w64} (sfits_of first.due_before-due.ok) ∙ first.due_before-due.ensures.0 years (is_window (dates tallied)).ends_within
+      to_z-of_z {w = w64} (sfits_of first.due_before-due.type_inv) ∙ first.due_before-due.ensures.0 years (is_window (dates tallied)).ends_within
       ∙ ap (λ (u : Tally). due_before years u (v x) (day_number (b x))) (tally_is tallied)
 
   due_start : to_z w64 (of_z w64 c.due_before-before.result) ≡ due_before years (t tallied) (v x) (day_number (a x))
@@ -243,7 +243,7 @@ module _ (c : After-due_before-before) where
       fits_abs (omega (
         arith,
         nat_abs--ℤ (to_z w64 (of_z w64 first.due_before-due.result)) (to_z w64 (of_z w64 c.due_before-before.result)),
-        abs_read {z = first.due_before-due.result} (sfits_of first.due_before-due.ok),
+        abs_read {z = first.due_before-due.result} (sfits_of first.due_before-due.type_inv),
         abs_read {z = c.due_before-before.result} (sfits_of c.due_before-before.type_inv),
         first.due_before-due.ensures.1,
         c.due_before-before.ensures.1,

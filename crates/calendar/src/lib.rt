@@ -1,4 +1,6 @@
 // The whole answer of `closing` to its input (01, Calendar years and the program).
+#![tactic(auto)]
+
 ghost use Rattle.std.specs.Prelude.{◌≡◌, ◌≤◌, length};
 ghost use Rattle.model.specs.Overlay.{overlay};
 ghost use Rattle.model.specs.Calls.{file_text, closing_text, respond_answer, respond_output, Responded};

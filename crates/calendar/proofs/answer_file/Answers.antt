@@ -1,4 +1,4 @@
--- `calendar::closing::answer_file` meets its contract: the refusal, or the text of the tally of the
+-- `calendar::answer_file` meets its contract: the refusal, or the text of the tally of the
 -- forecast. Assumes nothing.
 use mathlib.Core.Path.{◌≡◌, refl, sym, ◌∙◌, ap, subst}
 use mathlib.Core.List.{List}
@@ -15,75 +15,57 @@ use Rattle.tally.specs.YearSums.{Small}
 use Rattle.tally.specs.Printable.{Printable, small_printable}
 use Rattle.tally_text.specs.TallyTextLaws.{tally_text_length, refusal_short}
 use Rattle.calendar.specs.Respond.{text_refused, text_accepted}
-use borrow.Author.Rules.{rules}
 use Rattle.calendar.proofs.answer_file.Goals as goal
-use Rattle.calendar.proofs.answer_file.Lts as lts
-use Rattle.calendar.proofs.answer_file.Tie as tie
-use Rattle.calendar.proofs.answer_file.Reads as reads
-use Rattle.calendar.proofs.answer_file.Goals.{Start}
 
--- the places, as the steps before a goal know them
-abbrev After-forecast_into-refusal : Type 0
-After-forecast_into-refusal = lts.After-forecast_into tie.the-claims reads.Pre reads.Post tie.handed_clauses
+-- the forecast is accepted, with the entries that it wrote
+record Accepted (m : ℕ) (file : List ℕ) (method basis : ℕ) (out : List ℤ) : Type 0 where
+  none : forecast_refusal m file method basis 1560 ≡ 0
+  output : out ≡ forecast_output m file method basis (zeros 1560)
 
-module _ (c : After-forecast_into-refusal) where
-  abbrev start : Start
-  start = c.before.before.before.before.before
+small : {m : ℕ} {file : List ℕ} {method basis : ℕ} {out : List ℤ} → Accepted m file method basis out
+    → (2 ≤ m) × (m ≤ 20) × (size m ≤ 1560) × Small m out
+small {m} {file} {method} {basis} a =
+    let f = file_small m file method basis (zeros 1560) a.none in
+    (f.0, f.1, f.2, subst (Small m) (sym a.output) f.3)
 
-  abbrev out : List ℤ
-  out = c.forecast_into-refusal.new.out
+printable : {m : ℕ} {file : List ℕ} {method basis : ℕ} {out : List ℤ} → Accepted m file method basis out → Printable m (tally_of m out)
+printable {m} {out = out} a = let s = small a in small_printable m out s.1 s.3
 
-  refusal_is : c.forecast_into-refusal.result ≡ forecast_refusal start.args.m start.args.file.now start.args.method start.args.basis 1560
-  refusal_is = c.forecast_into-refusal.ensures.value ∙ forecast_refusal_lem _ _ _ _ _ refl
-
-  output_is : out ≡ forecast_output start.args.m start.args.file.now start.args.method start.args.basis (zeros 1560)
-  output_is = c.forecast_into-refusal.ensures.out_after
-
--- the forecast is accepted
-module _ (c : After-forecast_into-refusal) (z : c.forecast_into-refusal.result ≡ 0) where
-  abbrev m : ℕ
-  m = (start c).args.m
-
-  small : (2 ≤ m) × (m ≤ 20) × (size m ≤ 1560) × Small m (out c)
-  small =
-      let f = file_small m (start c).args.file.now (start c).args.method (start c).args.basis (zeros 1560) (sym (refusal_is c) ∙ z) in
-      (f.0, f.1, f.2, subst (Small m) (sym (output_is c)) f.3)
-
-  printable : Printable m (tally_of m (out c))
-  printable = small_printable m (out c) small.1 small.3
-
-  text_is : file_text m (start c).args.file.now (start c).args.method (start c).args.basis ≡ tally_text m (tally_of m (out c))
-  unfolding file_tally
-  text_is = text_accepted m (start c).args.file.now (start c).args.method (start c).args.basis (sym (refusal_is c) ∙ z) ∙ ap (λ (out : List ℤ). tally_text m (tally_of m out)) (sym (output_is c))
+text_is : {m : ℕ} {file : List ℕ} {method basis : ℕ} {out : List ℤ} → Accepted m file method basis out
+    → file_text m file method basis ≡ tally_text m (tally_of m out)
+unfolding file_tally
+text_is {m} {file} {method} {basis} a =
+    text_accepted m file method basis a.none ∙ ap (λ (out : List ℤ). tally_text m (tally_of m out)) (sym a.output)
 
 pub write_refusal-requires : goal.write_refusal-requires
-write_refusal-requires c = le_trans (refusal_short _ (omega (arith, c.before.before.before.before.forecast_into-refusal.type_inv))) (start c.before.before.before.before).requires
+write_refusal-requires c = le_trans (refusal_short _ (omega (arith, c.forecast_into-refusal.type_inv))) c.requires
 
 pub returns-then-refusal-ne0 : goal.returns-then-refusal-ne0
 returns-then-refusal-ne0 c =
-    let t = c.before.before.before.before.before in
-    let w = t.before.before in
-    rw (text_refused (start w).args.m (start w).args.file.now (start w).args.method (start w).args.basis w.forecast_into-refusal.result t.if-refusal-ne0.true (sym (refusal_is w)))
-    c.before.before.before.write_refusal.ensures
+    let r = c.forecast_into-refusal.ensures.value ∙ forecast_refusal_lem _ _ _ _ _ refl in
+    rw (text_refused c.args.m c.args.file.now c.args.method c.args.basis c.forecast_into-refusal.result c.if-refusal-ne0.true (sym r))
+    c.write_refusal.ensures
 
 pub tally_of-t-requires : goal.tally_of-t-requires
 tally_of-t-requires c =
-    let w = c.before.before.before.before in
-    let s = small w c.before.before.if-refusal-ne0.false in
-    (s.0, s.1, omega (arith, s.2, w.forecast_into-refusal.auto), s.3)
+    let r = c.forecast_into-refusal.ensures.value ∙ forecast_refusal_lem _ _ _ _ _ refl in
+    let a : Accepted c.args.m c.args.file.now c.args.method c.args.basis c.forecast_into-refusal.new.out =
+    record { none = sym r ∙ c.if-refusal-ne0.false; output = c.forecast_into-refusal.ensures.out_after } in
+    let s = small a in
+    (s.0, s.1, omega (arith, s.2, c.forecast_into-refusal.auto), s.3)
 
 pub write_tally_text-requires : goal.write_tally_text-requires
 write_tally_text-requires c =
-    let t = c.before.before.before.before.before in
-    let e = t.before.before in
-    let w = e.before.before in
-    let s = small w e.if-refusal-ne0.false in
-    let p = printable w e.if-refusal-ne0.false in
-    rw t.tally_of-t.ensures record { le_m = (s.0, s.1); printable = p; ibnr_in_bounds = omega (arith, tally_text_length (m w e.if-refusal-ne0.false) _ s.1 p, (start w).requires) }
+    let r = c.forecast_into-refusal.ensures.value ∙ forecast_refusal_lem _ _ _ _ _ refl in
+    let a : Accepted c.args.m c.args.file.now c.args.method c.args.basis c.forecast_into-refusal.new.out =
+    record { none = sym r ∙ c.if-refusal-ne0.false; output = c.forecast_into-refusal.ensures.out_after } in
+    let s = small a in
+    rw c.tally_of-t.ensures
+    record { le_m = (s.0, s.1); printable = printable a; ibnr_in_bounds = omega (arith, tally_text_length c.args.m _ s.1 (printable a), c.requires) }
 
 pub returns : goal.returns
 returns c =
-    let p = c.before.before.before in
-    let t = p.before.before.before.before.before in
-    let e = t.before.before in
-    rw (text_is e.before.before e.if-refusal-ne0.false) (rw t.tally_of-t.ensures at p.write_tally_text.ensures)
+    let r = c.forecast_into-refusal.ensures.value ∙ forecast_refusal_lem _ _ _ _ _ refl in
+    let a : Accepted c.args.m c.args.file.now c.args.method c.args.basis c.forecast_into-refusal.new.out =
+    record { none = sym r ∙ c.if-refusal-ne0.false; output = c.forecast_into-refusal.ensures.out_after } in
+    rw (text_is a) (rw c.tally_of-t.ensures at c.write_tally_text.ensures)

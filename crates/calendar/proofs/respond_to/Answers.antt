@@ -1,5 +1,5 @@
--- `calendar::closing::respond_to` meets its contract: the bytes read are the input, or fill a
--- buffer that is long enough for an input to be cut there. Assumes nothing.
+-- `calendar::respond_to` meets its contract: the bytes read are the input, or fill a buffer that is
+-- long enough for an input to be cut there. Assumes nothing.
 use mathlib.Core.Path.{sym}
 use native.Mathlib.Omega.{arith}
 use lib.Seq.{length-take-le}
@@ -8,13 +8,11 @@ use Rattle.calendar.proofs.respond_to.Goals as goal
 
 pub returns-then-n-read : goal.returns-then-n-read
 returns-then-n-read c =
-    let s = c.before.before.before.before.before in
-    read_short s.args.input.now s.args.out.now c.answer.new.text s.args.n c.answer.result (omega arith) c.answer.ensures
+    read_short c.args.input.now c.args.out.now c.answer.new.text c.args.n c.answer.result (omega arith) c.answer.ensures
 
 pub returns : goal.returns
 returns c =
-    let s = c.before.before.before.before in
-    read_full s.args.input.now s.args.out.now c.answer-2.new.text s.args.n c.answer-2.result (omega arith) (omega arith) c.answer-2.ensures
+    read_full c.args.input.now c.args.out.now c.answer-2.new.text c.args.n c.answer-2.result (omega arith) (omega arith) c.answer-2.ensures
 
 pub slice_bounds-answer-end : goal.slice_bounds-answer-end
 slice_bounds-answer-end c = sym (length-take-le _ _ (omega arith))

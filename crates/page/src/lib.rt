@@ -1,4 +1,6 @@
 // The closing page of a file (02, Job 1).
+#![tactic(auto)]
+
 ghost use Rattle.std.specs.Prelude.{◌≡◌, length};
 ghost use Rattle.model.specs.Calls.{page_refusal, page_output};
 

@@ -2,7 +2,7 @@
 use Rattle.std.specs.Prelude.{◌≡◌, cond, ℕ, ◌≤◌, ◌<◌, leb, ℤ, nat_abs}
 use Rattle.std.proofs.Common.{arith, leb-true, leb-false, le-leb}
 use Rattle.std.proofs.lemmas.Bool.{lt-leb}
-use Rattle.model.specs.Tests.{by-test}
+use Rattle.model.specs.Tests.{by_test}
 use Rattle.arithmetic.specs.declared.Capped.{Capped}
 use Rattle.arithmetic.specs.declared.Capped.TheVariants.{Within, TooLarge}
 
@@ -22,11 +22,11 @@ capped_over cap z h = rw (lt-leb (nat_abs z) cap h)
 pub within_is : (cap : ℕ) (z k : ℤ) → capped cap z ≡ Within k → (z ≡ k) × (nat_abs z ≤ cap)
 unfolding capped
 within_is cap z k e =
-    by-test (leb (nat_abs z) cap) (λ t. let w : Within z ≡ Within k = rw t at e in (cc, leb-true (nat_abs z) cap t))
+    by_test (leb (nat_abs z) cap) (λ t. let w : Within z ≡ Within k = rw t at e in (cc, leb-true (nat_abs z) cap t))
     (λ t. let w : TooLarge ≡ Within k = rw t at e in let n : ◌≡◌ {A = ℕ} 0 1 = cc in absurd (omega arith))
 
 pub over_is : (cap : ℕ) (z : ℤ) → capped cap z ≡ TooLarge → cap < nat_abs z
 unfolding capped
 over_is cap z e =
-    by-test (leb (nat_abs z) cap) (λ t. let w : Within z ≡ TooLarge = rw t at e in let n : ◌≡◌ {A = ℕ} 0 1 = cc in absurd (omega arith))
+    by_test (leb (nat_abs z) cap) (λ t. let w : Within z ≡ TooLarge = rw t at e in let n : ◌≡◌ {A = ℕ} 0 1 = cc in absurd (omega arith))
     (λ t. leb-false (nat_abs z) cap t)

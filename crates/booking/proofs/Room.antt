@@ -14,7 +14,7 @@ use Rattle.integers.specs.Parts.{◌⩽◌, ◌⋖◌}
 use Rattle.integers.specs.Order.{le_z_false, lt_yes, lt_no}
 use Rattle.integers.specs.Linear.{lin, stmt, ◌&◌}
 use Rattle.model.specs.Records.{in_range}
-use Rattle.model.specs.Tests.{by-test}
+use Rattle.model.specs.Tests.{by_test}
 
 module _ (kind : ℕ) (v a : ℤ) (lo : pos 0 ⩽ a) (hi : a ⩽ pos (10 ^ 10)) (two : kind < 2) where
   below : lt_z v (negsuc (10 ^ 10 - 1)) ≡ true → (v +ℤ a) ⋖ pos 0
@@ -27,7 +27,7 @@ module _ (kind : ℕ) (v a : ℤ) (lo : pos 0 ⩽ a) (hi : a ⩽ pos (10 ^ 10)) 
   above : lt_z (pos (10 ^ 10)) v ≡ true → pos (cond (eqb kind 0) (10 ^ 7) (10 ^ 10)) ⋖ (v +ℤ a)
   above e =
       let h : pos (10 ^ 10) ⋖ v = lt_yes e in
-      by-test (eqb kind 0) (λ y. rw y (lin (v ∷ a ∷ []) (h & lo) (search stmt depth 20) (omega arith)))
+      by_test (eqb kind 0) (λ y. rw y (lin (v ∷ a ∷ []) (h & lo) (search stmt depth 20) (omega arith)))
       (λ y. rw y (lin (v ∷ a ∷ []) (h & lo) (search stmt depth 20) (omega arith)))
 
   pub room_high : lt_z (pos (10 ^ 10)) v ≡ true → false ≡ in_range kind (v +ℤ a)

@@ -10,7 +10,7 @@ use Rattle.model.specs.Questions.{Question, q6, q19, first_no, of_forecast}
 use Rattle.model.specs.QuestionsLaws.{forecast_numbered, stage_no, stage_yes, stages_so}
 use Rattle.model.specs.Calls.{zeros, call_refusal, file_tally, cash_refusal, accepted_cash, refused_cash, cash_answer}
 use Rattle.model.specs.CallsLaws.{read_passed, settings_refusal, first_settings, after_settings, both_so, if_accepted_lem, if_refused}
-use Rattle.model.specs.Tests.{by-test}
+use Rattle.model.specs.Tests.{by_test}
 use Rattle.model.specs.declared.TriangleSet.{TriangleSet}
 use Rattle.model.specs.declared.Date.{Date}
 use Rattle.model.specs.declared.CashAnswer.{CashAnswer}
@@ -69,7 +69,7 @@ module _ (m : ℕ) (f : List ℕ) (method basis : ℕ) (v a b : Date) where
   cash_so z =
       let x = both_so m f method basis (of_set ++ of_dates) z in
       let y = stages_so of_set of_dates (forecast_numbered m s (delays_of m s) method) x.1 in
-      (x.0, y.0, by-test (q19 m v a b) (λ e. e) (λ e. absurd (let n : ◌≡◌ {A = ℕ} 19 0 = rw e at y.1 in omega arith)))
+      (x.0, y.0, by_test (q19 m v a b) (λ e. e) (λ e. absurd (let n : ◌≡◌ {A = ℕ} 19 0 = rw e at y.1 in omega arith)))
 
   -- ---- the answer
   abbrev amount : ℤ

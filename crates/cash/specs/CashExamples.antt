@@ -21,17 +21,17 @@ of_k = record { rbns = pos 337 ∷ []; ibnr = pos 165 ∷ pos 69 ∷ [] }
 
 -- from 31 December of year 3 on, as it would be in 2023: year 4 has 366 days, of which 183 are over
 -- on 1 July; the last day of the first forecast year; both years
-pub windows-of-K :
+pub windows_of-K :
     (cash_in 2 of_k (date 3 12 31) (date 3 12 31) (date 4 7 1) ≡ pos 251) × (cash_in 2 of_k (date 3 12 31) (date 4 12 30) (date 4 12 31) ≡ pos 1)
     × (cash_in 2 of_k (date 3 12 31) (date 3 12 31) (date 5 12 31) ≡ pos 571)
 unfolding opened_cash of_k
-windows-of-K = (refl, refl, refl)
+windows_of-K = (refl, refl, refl)
 
 -- a year from 29 February ends before 28 February; 182 days are less than half of a year like 1900
-pub other-years :
+pub other_years :
     (cash_in 2 of_k (date 4 2 29) (date 4 2 29) (date 5 2 28) ≡ pos 502) × (cash_in 2 of_k (date 100 1 1) (date 100 1 1) (date 100 7 2) ≡ pos 250)
 unfolding opened_cash of_k
-other-years = (refl, refl)
+other_years = (refl, refl)
 
 -- 3 and half of 1 is nearer to no whole number than 4, the even one; and its mirror
 unfoldable pub of_halves : Tally
@@ -40,10 +40,10 @@ of_halves = record { rbns = pos 3 ∷ pos 0 ∷ []; ibnr = pos 0 ∷ pos 1 ∷ [
 unfoldable pub of_losses : Tally
 of_losses = record { rbns = negsuc 2 ∷ pos 0 ∷ []; ibnr = pos 0 ∷ negsuc 0 ∷ [] }
 
-pub rounded-once :
+pub rounded_once :
     (due_before 2 of_halves (date 2 12 31) (day_number (date 4 7 1)) ≡ pos 4) × (due_before 2 of_losses (date 2 12 31) (day_number (date 4 7 1)) ≡ negsuc 3)
 unfolding opened_cash of_halves of_losses
-rounded-once = (refl, refl)
+rounded_once = (refl, refl)
 
 -- ---- the call
 

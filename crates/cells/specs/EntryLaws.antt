@@ -9,7 +9,7 @@ use Rattle.std.proofs.Math.Seq.{drop-append-add}
 use Rattle.model.specs.Overlay.{overlay, overlay_store}
 use Rattle.model.specs.Lists.{tabulate}
 use Rattle.model.specs.ListsLaws.{tabulate_ext, tabulate_last, length_tabulate}
-use Rattle.model.specs.Tests.{by-test}
+use Rattle.model.specs.Tests.{by_test}
 use Rattle.cells.specs.CellOf.{cell_of, first_entries}
 
 -- a list written over the first part of its own place
@@ -34,7 +34,7 @@ module _ (m : ℕ) (v : ℤ) (s p u : List ℤ) (i : ℕ) where
   pub known_entries : 1 ≤ i → tabulate (2 * (m + 1 - i)) (λ _. pos 0) ≡ first_entries m v s p u i (2 * (m + 1 - i))
   unfolding first_entries cell_of
   known_entries h =
-      tabulate_ext (2 * (m + 1 - i)) (λ _. pos 0) f (λ e l. rw (le-leb (i + e / 2) m (omega arith)) (by-test (eqb (e % 2) 0) (λ t. rw t) (λ t. rw t)))
+      tabulate_ext (2 * (m + 1 - i)) (λ _. pos 0) f (λ e l. rw (le-leb (i + e / 2) m (omega arith)) (by_test (eqb (e % 2) 0) (λ t. rw t) (λ t. rw t)))
 
   pub length_entries : (n : ℕ) → length (first_entries m v s p u i n) ≡ n
   unfolding first_entries

@@ -14,7 +14,7 @@ use Rattle.integers.specs.Sums.{sum, sum_suc, sum_cong, sum_nothing, sum_part, s
 use Rattle.model.specs.Lists.{at}
 use Rattle.model.specs.ListsLaws.{and_right}
 use Rattle.model.specs.Cells.{pairs}
-use Rattle.model.specs.Tests.{by-test}
+use Rattle.model.specs.Tests.{by_test}
 use Rattle.cells.specs.Weights.{Weights, Delays}
 
 -- one weight is at most what all are
@@ -78,7 +78,7 @@ module _ (m j : ℕ) (ok : ℕ → Bool) (x p : List ℤ) where
 sum_but_one : (n c : ℕ) (f g : ℕ → ℤ) → c < n → g c ≡ pos 0 → ((k : ℕ) → (k ≡ c → ⊥) → f k ≡ g k) → sum n f ≡ sum n g +ℤ f c
 sum_but_one zero c f g h z same = absurd (let k : ⊥ = omega arith in k)
 sum_but_one (suc n) c f g h z same =
-    by-test (eqb c n)
+    by_test (eqb c n)
     (λ e. let d : c ≡ n = eqb-true c n e in
     rw (sum_suc n f, sum_suc n g, ← d, z, sum_cong c (λ k l. same k (λ y. omega arith))) (lin₀ (sum c g ∷ f c ∷ []) (search stmt) (omega arith)))
     (λ e. let d = eqb-false c n e in
@@ -93,7 +93,7 @@ module _ (m j : ℕ) (x p : List ℤ) where
   other_terms : (c k : ℕ) → (k ≡ c → ⊥) → from c k ≡ from (suc c) k
   unfolding term
   other_terms c k n =
-      by-test (leb (suc c) k) (λ e. let h = leb-true (suc c) k e in rw (e, le-leb c k (omega arith)))
+      by_test (leb (suc c) k) (λ e. let h = leb-true (suc c) k e in rw (e, le-leb c k (omega arith)))
       (λ e. let h = leb-false (suc c) k e in rw (e, lt-leb c k (omega arith)))
 
   without : (c : ℕ) → from (suc c) c ≡ pos 0
@@ -106,7 +106,7 @@ module _ (m j : ℕ) (x p : List ℤ) where
       ∙ ap (λ (z : ℤ). sum m (from (suc c)) +ℤ z) (term_in m j (leb c) x p c (le-leb c c (omega arith)) a b))
 
   pub no_more : (c : ℕ) → (j < c) ⊎ (c + m ≤ j) → pairs m j (leb c) x p ≡ pairs m j (leb (suc c)) x p
-  no_more c o = rw (pairs_terms m j (leb c) x p, pairs_terms m j (leb (suc c)) x p) (sum_cong m (λ k l. by-test (eqb k c) (λ e. rw (eqb-true k c e) (nothing ∙ sym (without c))) (λ e. other_terms c k (eqb-false k c e))))
+  no_more c o = rw (pairs_terms m j (leb c) x p, pairs_terms m j (leb (suc c)) x p) (sum_cong m (λ k l. by_test (eqb k c) (λ e. rw (eqb-true k c e) (nothing ∙ sym (without c))) (λ e. other_terms c k (eqb-false k c e))))
     where
       nothing : from c c ≡ pos 0
       nothing = ⊎_elim (term_after m j (leb c) x p c) (term_before m j (leb c) x p c) o
@@ -118,7 +118,7 @@ module _ (m j : ℕ) (x p : List ℤ) where
   up_or_later : (n k : ℕ) → from 0 k ≡ term m j (λ k. leb k n) x p k +ℤ from (n + 1) k
   unfolding term
   up_or_later n k =
-      by-test (leb k n) (λ e. let h = leb-true k n e in rw (le-leb 0 k (omega arith), e, lt-leb (n + 1) k (omega arith)) (sym (+ℤ_idr _)))
+      by_test (leb k n) (λ e. let h = leb-true k n e in rw (le-leb 0 k (omega arith), e, lt-leb (n + 1) k (omega arith)) (sym (+ℤ_idr _)))
       (λ e. let h = leb-false k n e in rw (le-leb 0 k (omega arith), e, le-leb (n + 1) k (omega arith)) (sym (+ℤ_idl _)))
 
   pub less_later : (n : ℕ) → pairs m j (λ k. leb k n) x p ≡ pairs m j (leb 0) x p -ℤ pairs m j (leb (n + 1)) x p

@@ -5,7 +5,7 @@ use Rattle.std.proofs.Math.Bool.{true, false}
 use native.Mathlib.Omega.{arith}
 use borrow.Author.Tests.{eqb-true}
 use Rattle.model.specs.ListsLaws.{and_left, and_right}
-use Rattle.model.specs.Tests.{by-test}
+use Rattle.model.specs.Tests.{by_test}
 use Rattle.model.specs.Dates.{leap, year_length, is_date, days_before_year, days_before_month, day_number, anniversary_day, anniversary}
 use Rattle.model.specs.declared.Date.{Date}
 use Rattle.dates.specs.DatesLaws.{before_leap, year_more, possible, YearApart}
@@ -17,8 +17,8 @@ module _ (D k day : ℕ) where
   unfolding year_length
   other_day true true h = omega arith
   other_day false false h = omega arith
-  other_day true false h = let b = before_leap k (omega arith) in by-test (leb 3 k) (λ t. let c = rw t at b in omega arith) (λ t. let c = rw t at b in omega arith)
-  other_day false true h = let b = before_leap k (omega arith) in by-test (leb 3 k) (λ t. let c = rw t at b in omega arith) (λ t. let c = rw t at b in omega arith)
+  other_day true false h = let b = before_leap k (omega arith) in by_test (leb 3 k) (λ t. let c = rw t at b in omega arith) (λ t. let c = rw t at b in omega arith)
+  other_day false true h = let b = before_leap k (omega arith) in by_test (leb 3 k) (λ t. let c = rw t at b in omega arith) (λ t. let c = rw t at b in omega arith)
 
   february_29 : (l m : Bool) → k ≡ 2 → day ≡ 29 → YearApart (D + days_before_month l k + cond (not l) 28 day) (D + year_length l + days_before_month m k + cond (not m) 28 day)
   unfolding year_length

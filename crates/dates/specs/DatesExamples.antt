@@ -23,11 +23,11 @@ pub possible_dates : (is_date (date 2024 2 29) && is_date (date 2000 2 29) && is
 unfolding opened_dates
 possible_dates = refl
 
-pub impossible-dates :
+pub impossible_dates :
     (is_date (date 1900 2 29) ≡ false) × (is_date (date 2023 2 29) ≡ false) × (is_date (date 2023 4 31) ≡ false)
     × (is_date (date 2023 13 1) ≡ false) × (is_date (date 2023 0 1) ≡ false) × (is_date (date 2023 1 0) ≡ false)
 unfolding opened_dates
-impossible-dates = (refl, refl, refl, refl, refl, refl)
+impossible_dates = (refl, refl, refl, refl, refl, refl)
 
 -- the days before each month of a common year, and before March and December of a leap year
 pub months :
@@ -54,17 +54,17 @@ anniversaries = (refl, refl, refl, refl)
 -- ---- question 19
 
 -- of m = 2: the first day and the last, the empty window, and the day after the last as an end
-pub accepted-windows :
+pub accepted_windows :
     (q19 2 (date 2023 12 31) (date 2023 12 31) (date 2025 12 31) && q19 2 (date 2023 12 31) (date 2025 12 30) (date 2025 12 31)
     && q19 2 (date 2023 12 31) (date 2025 12 30) (date 2025 12 30) && q19 20 (date 2199 12 31) (date 2237 12 30) (date 2237 12 31)) ≡ true
 unfolding opened_dates
-accepted-windows = refl
+accepted_windows = refl
 
 -- that day as a start, the day after it as an end, a start before the valuation date, an end before
 -- the start, and the years 1899 and 2200
-pub refused-windows :
+pub refused_windows :
     (q19 2 (date 2023 12 31) (date 2025 12 31) (date 2025 12 31) ≡ false) × (q19 2 (date 2023 12 31) (date 2024 1 1) (date 2026 1 1) ≡ false)
     × (q19 2 (date 2023 12 31) (date 2023 12 30) (date 2024 1 1) ≡ false) × (q19 2 (date 2023 12 31) (date 2024 1 2) (date 2024 1 1) ≡ false)
     × (q19 2 (date 1899 12 31) (date 1900 1 1) (date 1900 1 2) ≡ false) × (q19 2 (date 2200 1 1) (date 2200 1 1) (date 2200 1 2) ≡ false)
 unfolding opened_dates
-refused-windows = (refl, refl, refl, refl, refl, refl)
+refused_windows = (refl, refl, refl, refl, refl, refl)

@@ -9,7 +9,7 @@ use borrow.Author.Tests.{ne_eqb, le-leb, lt-leb, leb-true, leb-false, eqb-true, 
 use Rattle.std.proofs.Math.ListN.{get_or-eq_default}
 use Rattle.model.specs.Lists.{total, every}
 use Rattle.model.specs.ListsLaws.{every_at, and_left, and_right}
-use Rattle.model.specs.Tests.{by-test}
+use Rattle.model.specs.Tests.{by_test}
 use Rattle.model.specs.Dates.{month_days, leap, month_length, year_length, is_date, days_before_year, days_before_month, day_number, anniversary_day, anniversary}
 use Rattle.model.specs.declared.Date.{Date}
 
@@ -26,7 +26,7 @@ month_high l k h = rw (ne_eqb k 2 (λ e. omega arith), le-leb 1 k (omega arith),
 -- the table has the months of a common year
 pub common_month : (k : ℕ) → 1 ≤ k → month_length false k ≡ get_or month_days (k - 1) 0
 unfolding month_length
-common_month k h = by-test (eqb k 2) (λ e. rw (e, le-leb 1 k h)) (λ e. rw (e, le-leb 1 k h))
+common_month k h = by_test (eqb k 2) (λ e. rw (e, le-leb 1 k h)) (λ e. rw (e, le-leb 1 k h))
 
 -- the table's rules, computed: a leap year has one day more in February, and so before each month
 -- from March on
@@ -78,8 +78,8 @@ possible d e =
     record {
       first = f;
       last = l;
-      low = by-test (leb 1 d.month) (leb-true 1 d.month) (λ u. omega (arith, month_low (leap d.year) d.month (leb-false 1 d.month u)));
-      high = by-test (leb d.month 12) (leb-true d.month 12) (λ u. omega (arith, month_high (leap d.year) d.month (leb-false d.month 12 u)));
+      low = by_test (leb 1 d.month) (leb-true 1 d.month) (λ u. omega (arith, month_low (leap d.year) d.month (leb-false 1 d.month u)));
+      high = by_test (leb d.month 12) (leb-true d.month 12) (λ u. omega (arith, month_high (leap d.year) d.month (leb-false d.month 12 u)));
     }
 
 -- ---- the numbers of dates
@@ -133,7 +133,7 @@ in_year_lem d e = let p = possible d e in rw (months_sum (leap d.year)) at (in_m
 
 pub day_few : (d : Date) → is_date d ≡ true → d.day ≤ 366
 unfolding year_length
-day_few d e = let y = in_year_lem d e in by-test (leap d.year) (λ t. let u = rw t at y in omega arith) (λ t. let u = rw t at y in omega arith)
+day_few d e = let y = in_year_lem d e in by_test (leap d.year) (λ t. let u = rw t at y in omega arith) (λ t. let u = rw t at y in omega arith)
 
 -- a is earlier than b: by the year, else by the month, else by the day
 pub data Earlier (a b : Date) : Type 0 where
@@ -161,8 +161,8 @@ module _ (a b : Date) (e : is_date a ≡ true) (f : is_date b ≡ true) where
   module _ (x y : ℕ) {X : Type 0} (low : x < y → X) (same : x ≡ y → X) (high : y < x → X) where
     by_order : X
     by_order =
-        by-test (ltb x y) (λ t. low (ltb-true x y t))
-        (λ t. by-test (ltb y x) (λ u. high (ltb-true y x u))
+        by_test (ltb x y) (λ t. low (ltb-true x y t))
+        (λ t. by_test (ltb y x) (λ u. high (ltb-true y x u))
         (λ u. let q : x ≡ y = omega (arith, ltb-false x y t, ltb-false y x u) in same q))
 
   pub lower_is_earlier : day_number a < day_number b → Earlier a b
@@ -255,7 +255,7 @@ module _ (k day : ℕ) where
   other_fits false false h e u = u
   other_fits false true h e u = omega (arith, length_leap k (omega arith))
   other_fits true false h e u =
-      by-test (eqb k 2)
+      by_test (eqb k 2)
       (λ t. let k2 : k ≡ 2 = eqb-true k 2 t in let n = eqb-false day 29 (rw t at e) in rw k2 (february n (rw k2 at u)))
       (λ t. let b = rw t at (length_leap k (omega arith)) in omega arith)
 

@@ -15,7 +15,7 @@ use Rattle.model.specs.Questions.{q12, q20, first_no, of_shares, of_delays, of_g
 use Rattle.model.specs.QuestionsLaws.{numbered, no_refusal, each_yes, stage_no, stage_yes, stages_so}
 use Rattle.model.specs.Calls.{if_accepted, zeros, call_refusal, read_refusal, delays_refusal, accepted_delays, refused_delays, delays_answer, check_delays_refusal, check_delays_answer}
 use Rattle.model.specs.CallsLaws.{by_file, by_set, number_of, beside, as_answered, if_refused}
-use Rattle.model.specs.Tests.{by-test}
+use Rattle.model.specs.Tests.{by_test}
 use Rattle.model.specs.declared.DelaysAnswer.{DelaysAnswer}
 use Rattle.ladder.specs.SharesLaws.{at_b_list, shares_sum, share_range}
 use Rattle.chain_ladder.specs.DevelopedLaws.{Shared, shares_numbered, counts_least, counts_sound, paid_sound}
@@ -45,8 +45,8 @@ module _ (m : ℕ) (c d : List ℤ) where
   -- its yes or no is the answer to the question that it is asked
   found_asked : (given : Bool) (lent : List ℤ) → first_no (asks_delays m c d given lent) ≡ cond (found given lent).ok 0 (cond given 20 12)
   unfolding asks_delays of_given_delays of_delays first_no checked_of solved_of
-  found_asked true lent = by-test (q20 m (b_list m c) (b_list m d) lent) (λ e. rw e) (λ e. rw e)
-  found_asked false lent = by-test (q12 m (pair_delays m c d)) (λ e. rw e) (λ e. rw e)
+  found_asked true lent = by_test (q20 m (b_list m c) (b_list m d) lent) (λ e. rw e) (λ e. rw e)
+  found_asked false lent = by_test (q12 m (pair_delays m c d)) (λ e. rw e) (λ e. rw e)
 
   -- with a yes it is the delays
   pub found_delays : (given : Bool) (lent : List ℤ) → (found given lent).ok ≡ true → (found given lent).p ≡ delays_from m c d given lent
@@ -127,7 +127,7 @@ module _ (m : ℕ) (f : List ℕ) where
 
   pub as_checked : {n line : ℕ} {lent before p : List ℤ} → ReadDelays m f true lent n before p → line ≡ if_accepted n (line_of f) 0 → record { refusal = n; line = line } ≡ check_delays_answer m f lent
   unfolding check_delays_answer check_delays_refusal asks_delays set_of
-  as_checked {n} {lent = lent} made l = rw (l, made.refusal) (by-test (eqb (check_delays_refusal m f lent) 0) (λ t. rw (t, eqb-true (check_delays_refusal m f lent) 0 t)) (λ t. rw t))
+  as_checked {n} {lent = lent} made l = rw (l, made.refusal) (by_test (eqb (check_delays_refusal m f lent) 0) (λ t. rw (t, eqb-true (check_delays_refusal m f lent) 0 t)) (λ t. rw t))
 
   -- over zeros, it is the answer
   as_made : {A : Type 0} {n : ℕ} → n ≡ (delays_answer m f).refusal → (part : DelaysAnswer → A) {x : A} → part (refused_delays (delays_refusal m f)) ≡ x

@@ -1,8 +1,11 @@
 -- Where 01 says a thing twice, the two agree: for every m from 2 to 20 by computation, or by a law.
-use Rattle.std.specs.Prelude.{ℕ, suc, ◌+◌, ◌-◌, ◌*◌, ◌≡◌, Bool, ◌&&◌, cond, List, T, eqb, ℤ, pos, ◌+ℤ◌, length}
+use Rattle.std.specs.Prelude.{ℕ, suc, ◌+◌, ◌-◌, ◌*◌, ◌≤◌, ◌≡◌, Bool, ◌&&◌, cond, List, T, eqb, ℤ, pos, ◌+ℤ◌, length}
 use Rattle.std.proofs.Common.{arith, ◌∙◌, ap, ap₂, le-leb}
+use borrow.Author.Tests.{eqb-true}
+use Rattle.integers.specs.Order.{so_true}
 use Rattle.integers.specs.Sums.{sum_nothing}
 use Rattle.model.specs.Lists.{every, total}
+use Rattle.model.specs.ListsLaws.{every_at}
 use Rattle.model.specs.Records.{set_of}
 use Rattle.model.specs.Delays.{delays_of}
 use Rattle.model.specs.Cells.{place_of, year_of, delay_of, size, rbns, ibnr, output_from}
@@ -24,6 +27,17 @@ numbers_agree k = every (k + 1) (λ c. eqb (compared_cells (k + 3) (k + 2 - c)) 
 pub cell_numbers : T (every 18 numbers_agree)
 unfolding every total compared cell_number compared_cells numbers_agree
 cell_numbers = tt
+
+-- as many cells are compared as their number says (01, Back-test)
+pub cells_compared : (m c : ℕ) → m ≤ 20 → 1 ≤ c → c + 2 ≤ m → compared_cells m (m - c) ≡ cell_number c (m - c)
+unfolding numbers_agree
+cells_compared m c few some most =
+    let e : m - 3 + 3 ≡ m = omega arith in
+    let d : m - 3 + 2 - (c - 1) ≡ m - c = omega arith in
+    let u : c - 1 + 1 ≡ c = omega arith in
+    let a = every_at numbers_agree 18 (m - 3) (so_true _ cell_numbers) (omega arith) in
+    let b = every_at (λ c. eqb (compared_cells (m - 3 + 3) (m - 3 + 2 - c)) (cell_number (c + 1) (m - 3 + 2 - c))) (m - 3 + 1) (c - 1) a (omega arith) in
+    rw (e, d, u) at (eqb-true (compared_cells (m - 3 + 3) (m - 3 + 2 - (c - 1))) (cell_number (c - 1 + 1) (m - 3 + 2 - (c - 1))) b)
 
 -- 01, Cell forecasts: both entries of cell (i,j), read back from their places as year and delay
 unfoldable pub place_agrees : ℕ → ℕ → ℕ → Bool

@@ -14,11 +14,11 @@ abbrev input : ℕ → ℕ → ℕ → List ℕ → List ℕ
 input m method basis f = (48 + m) ∷ 32 ∷ (48 + method) ∷ 32 ∷ (48 + basis) ∷ 10 ∷ f
 
 -- no input at all, "2 0 1" without its newline, and "2  0 1" with two spaces
-pub no-first-line :
+pub no_first_line :
     (closing_text [] ≡ told (49 ∷ [])) × (closing_text (50 ∷ 32 ∷ 48 ∷ 32 ∷ 49 ∷ []) ≡ told (49 ∷ []))
     × (closing_text (50 ∷ 32 ∷ 32 ∷ 48 ∷ 32 ∷ 49 ∷ 10 ∷ K) ≡ told (49 ∷ []))
 unfolding opened_further
-no-first-line = (refl, refl, refl)
+no_first_line = (refl, refl, refl)
 
 -- m = 21, and m = 1
 pub wrong_size : (closing_text (50 ∷ 49 ∷ 32 ∷ 48 ∷ 32 ∷ 49 ∷ 10 ∷ K) ≡ told (49 ∷ [])) × (closing_text (input 1 0 1 K) ≡ told (49 ∷ []))
@@ -36,8 +36,8 @@ unfolding opened_further
 wrong_method = (refl, refl)
 
 -- a row without counts is 9; a delay of -8,016,000,000 is 12
-pub refused-sets :
+pub refused_sets :
     (closing_text (input 2 0 1 (two 0 80 20 0 ++ two 1 600 400 660)) ≡ told (57 ∷ []))
     × (closing_text (input 2 0 1 (two 0 25 75 50 ++ two 1 751 249 750)) ≡ told (49 ∷ 50 ∷ []))
 unfolding opened_further
-refused-sets = (refl, refl)
+refused_sets = (refl, refl)

@@ -23,11 +23,11 @@ abbrev of_k : List ℤ → Bool
 of_k = q20 2 (pair 800000000 200000000) (pair 600000000 400000000)
 
 -- its own delays; each of them one off, in either direction
-pub one-off :
+pub one_off :
     (of_k (pair 750000000 312500000) ≡ true) × (of_k (pair 750000001 312500000) ≡ false) × (of_k (pair 749999999 312500000) ≡ false)
     × (of_k (pair 750000000 312500001) ≡ false) × (of_k (pair 750000000 312499999) ≡ false)
 unfolding opened_given
-one-off = (refl, refl, refl, refl, refl)
+one_off = (refl, refl, refl, refl, refl)
 
 -- none, one less than m and one more, if only a zero
 pub numbers : (of_k [] ≡ false) × (of_k (pos 750000000 ∷ []) ≡ false) × (of_k (pair 750000000 312500000 ++ (pos 0 ∷ [])) ≡ false)

@@ -59,11 +59,11 @@ unfolding opened_further
 unwritten_1 = (refl, refl)
 
 -- 5: each kind past its range; incurred that is not there is not looked at
-pub unwritten-5 :
+pub unwritten_5 :
     (wrote 2 true (pos 10000001) (pos 660) (pos 1080) 144 ≡ 5) × (wrote 2 true (pos 90) (less 1) (pos 1080) 144 ≡ 5)
     × (wrote 2 true (pos 90) (pos 660) (less 10000000001) 144 ≡ 5) × (wrote 2 false (pos 90) (pos 660) (less 10000000001) 96 ≡ 0)
 unfolding opened_further
-unwritten-5 = (refl, refl, refl, refl)
+unwritten_5 = (refl, refl, refl, refl)
 
 -- 7: room for all but one byte
 pub unwritten_7 : (wrote 2 true (pos 90) (pos 660) (pos 1080) 143 ≡ 7) × (wrote 2 false (pos 90) (pos 660) (pos 1080) 95 ≡ 7)
@@ -90,8 +90,8 @@ unfolding opened_further negative
 rewritten = (refl, refl, refl)
 
 -- byte by byte: incurred of -2 in year 1 at delay 1 on line 5, and 10^10 paid in year 2
-pub record-bytes :
+pub record_bytes_lem :
     (record_of 2 1 1 5 (word (less 2)) ≡ 2 ∷ 1 ∷ 1 ∷ 5 ∷ 0 ∷ 0 ∷ 0 ∷ 0 ∷ 254 ∷ 255 ∷ 255 ∷ 255 ∷ 255 ∷ 255 ∷ 255 ∷ 255 ∷ [])
     × (record_of 1 2 0 0 (word (pos (10 ^ 10))) ≡ 1 ∷ 2 ∷ 0 ∷ 0 ∷ 0 ∷ 0 ∷ 0 ∷ 0 ∷ 0 ∷ 228 ∷ 11 ∷ 84 ∷ 2 ∷ 0 ∷ 0 ∷ 0 ∷ [])
 unfolding opened_further
-record-bytes = (refl, refl)
+record_bytes_lem = (refl, refl)

@@ -31,8 +31,8 @@ unfolding opened_further
 no_overflow = refl
 
 -- years 0 and 39 are none, and year 38 is the last
-pub tally-years :
+pub tally_years :
     (tally_add (tally (pos 5) (pos 6)) 0 (pos 1) (pos 2) ≡ tally (pos 5) (pos 6)) × (tally_add (tally (pos 5) (pos 6)) 39 (pos 1) (pos 2) ≡ tally (pos 5) (pos 6))
     × (tally_add (tally (pos 5) (pos 6)) 38 (pos 1) (pos 2) ≡ record { rbns = pos 5 ∷ replicate 36 (pos 0) ++ pos 1 ∷ []; ibnr = pos 6 ∷ replicate 36 (pos 0) ++ pos 2 ∷ [] })
 unfolding opened_further
-tally-years = (refl, refl, refl)
+tally_years = (refl, refl, refl)

@@ -9,7 +9,7 @@ use Rattle.std.proofs.Math.Decide.{dec_lt}
 use Rattle.std.proofs.Math.ListN.{get_or-eq_default}
 use Rattle.std.proofs.Math.Seq.{slice, slice-cons, slice_empty}
 use borrow.Author.Tests.{le-leb, lt-leb, leb-true, eq-eqb, ne_eqb, eqb-true}
-use Rattle.model.specs.Tests.{by-test}
+use Rattle.model.specs.Tests.{by_test}
 use Rattle.model.specs.ListsLaws.{and_left, and_right}
 use Rattle.model.specs.Calendar.{front, value_from, run_at, first, second, third, first_line}
 use Rattle.model.specs.declared.Run.{Run}
@@ -56,7 +56,7 @@ unfolding front
 front_take zero s = refl
 front_take (suc k) [] = refl
 front_take (suc k) (b ∷ s) =
-    by-test (is_digit b) (λ e. rw (front_yes b (take k s) e, front_yes b s e, front_take k s))
+    by_test (is_digit b) (λ e. rw (front_yes b (take k s) e, front_yes b s e, front_take k s))
     (λ e. rw (front_no b (take k s) e, front_no b s e))
 
 -- the digits are the start of s, as many as there are
@@ -64,7 +64,7 @@ front_start : (s : List ℕ) → take (length (front s)) s ≡ front s
 unfolding front
 front_start [] = refl
 front_start (b ∷ s) =
-    by-test (is_digit b) (λ e. rw (front_yes b s e) (ap (λ (l : List ℕ). b ∷ l) (front_start s))) (λ e. rw (front_no b s e))
+    by_test (is_digit b) (λ e. rw (front_yes b s e) (ap (λ (l : List ℕ). b ∷ l) (front_start s))) (λ e. rw (front_no b s e))
 
 -- the digits at a place, as the part of s up to their end
 front_part : (s : List ℕ) (a : ℕ) → a ≤ length s → slice a (a + length (front (drop a s))) s ≡ front (drop a s)

@@ -8,7 +8,7 @@ use borrow.Author.Tests.{le-leb, lt-leb, lt-ltb, leb-true, leb-false, ltb-true}
 use Rattle.std.proofs.Math.Dec.{leb}
 use Rattle.model.specs.Lists.{total, count}
 use Rattle.model.specs.ListsLaws.{and_left, and_right}
-use Rattle.model.specs.Tests.{by-test}
+use Rattle.model.specs.Tests.{by_test}
 use Rattle.model.specs.Dates.{is_date, day_number, anniversary}
 use Rattle.model.specs.Cash.{year_start, years_before}
 use Rattle.model.specs.Questions.{is_valuation, in_years, q19}
@@ -48,7 +48,7 @@ count_first : (p : ℕ → Bool) (n k : ℕ) → k ≤ n → ((i : ℕ) → i < 
 unfolding count total
 count_first p zero k h t f = omega arith
 count_first p (suc n) k h t f =
-    by-test (leb k n)
+    by_test (leb k n)
     (λ e. let l = leb-true k n e in rw (f n l (omega arith)) (omega (arith, count_first p n k l t (λ i a b. f i a (omega arith)))))
     (λ e. let l = leb-false k n e in rw (t n (omega arith)) (omega (arith, count_first p n n (omega arith) (λ i b. t i (omega arith)) (λ i a b. absurd (omega arith)))))
 
@@ -69,7 +69,7 @@ module _ (v : Date) (e : is_date v ≡ true) where
 
   -- the year of a day up to where year n + 1 starts
   pub years_within : (n k day : ℕ) → InYear v k day → day ≤ year_start v n → k ≤ n
-  years_within n k day i h = by-test (leb k n) (leb-true k n) (λ f. let l = leb-false k n f in absurd (omega (arith, i.started, starts_order n k l)))
+  years_within n k day i h = by_test (leb k n) (leb-true k n) (λ f. let l = leb-false k n f in absurd (omega (arith, i.started, starts_order n k l)))
 
   -- the years that have ended before a day of year k + 1
   pub years_are : (n k day : ℕ) → InYear v k day → day ≤ year_start v n → years_before n v day ≡ k
@@ -93,11 +93,11 @@ module _ (v d : Date) (e : is_date v ≡ true) (f : is_date d ≡ true) where
 
   -- a date that is not before the valuation date is of no earlier year
   pub year_reached : day_number v ≤ day_number d → v.year ≤ d.year
-  year_reached h = by-test (leb v.year d.year) (leb-true _ _) (λ t. let l = leb-false v.year d.year t in absurd (omega (arith, number_rises d v f e (by_year l))))
+  year_reached h = by_test (leb v.year d.year) (leb-true _ _) (λ t. let l = leb-false v.year d.year t in absurd (omega (arith, number_rises d v f e (by_year l))))
 
   -- nor past the forecast years
   pub year_within : (t : ℕ) → day_number d ≤ year_start v t → d.year ≤ v.year + t
-  year_within t h = by-test (leb d.year (v.year + t)) (leb-true _ _) (λ u. let l = leb-false d.year (v.year + t) u in absurd (omega (arith, after_anniversary t l)))
+  year_within t h = by_test (leb d.year (v.year + t)) (leb-true _ _) (λ u. let l = leb-false d.year (v.year + t) u in absurd (omega (arith, after_anniversary t l)))
 
   -- the forecast year: as many have ended as the years differ, unless that anniversary is to come
   module _ (reached : day_number v ≤ day_number d) where
@@ -106,7 +106,7 @@ module _ (v d : Date) (e : is_date v ≡ true) (f : is_date d ≡ true) where
         record { started = h; goes_on = before_anniversary (suc (d.year - v.year)) (omega (arith, year_reached reached)) }
 
     pub some_year : day_number d < year_start v (d.year - v.year) → 1 ≤ d.year - v.year
-    some_year h = by-test (leb 1 (d.year - v.year)) (leb-true _ _) (λ t. let l = leb-false 1 (d.year - v.year) t in let z : d.year - v.year ≡ 0 = omega arith in absurd (omega (arith, rw z at h, start_zero v e)))
+    some_year h = by_test (leb 1 (d.year - v.year)) (leb-true _ _) (λ t. let l = leb-false 1 (d.year - v.year) t in let z : d.year - v.year ≡ 0 = omega arith in absurd (omega (arith, rw z at h, start_zero v e)))
 
     pub in_year_less : day_number d < year_start v (d.year - v.year) → InYear v (d.year - v.year - 1) (day_number d)
     in_year_less h =

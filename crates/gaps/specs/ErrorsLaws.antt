@@ -11,7 +11,7 @@ use Rattle.model.specs.Lists.{total}
 use Rattle.model.specs.ListsLaws.{total_ext}
 use Rattle.model.specs.Records.{cell}
 use Rattle.model.specs.BackTest.{cellwise, year_gap, yearwise, overall}
-use Rattle.model.specs.Tests.{by-test}
+use Rattle.model.specs.Tests.{by_test}
 use Rattle.gaps.specs.Gaps.{SmallGaps, row_in_year}
 
 -- ---- totals
@@ -52,7 +52,7 @@ module _ (a e : ℕ) (f : ℕ → ℤ) where
   pub one_picked : (n j : ℕ) → j < n → a + j ≡ e → sum n pick ≡ f j
   one_picked zero j h q = absurd (omega arith)
   one_picked (suc n) j h q =
-      by-test (ltb j n)
+      by_test (ltb j n)
       (λ t. let l = ltb-true j n t in
       sum_suc n pick ∙ ap₂ (λ (x y : ℤ). x +ℤ y) (one_picked n j l q) (pick_no n (λ z. omega arith)) ∙ +ℤ_idr (f j))
       (λ t. let l = ltb-false j n t in let s : n ≡ j = omega arith in let u : a + n ≡ e = omega arith in
@@ -60,9 +60,9 @@ module _ (a e : ℕ) (f : ℕ → ℤ) where
 
   picked_small : (n c : ℕ) → ((j : ℕ) → j < n → nat_abs (f j) ≤ c) → nat_abs (sum n pick) ≤ c
   picked_small n c h =
-      by-test (leb a e)
+      by_test (leb a e)
       (λ t. let l = leb-true a e t in
-      by-test (ltb (e - a) n)
+      by_test (ltb (e - a) n)
       (λ u. let b = ltb-true (e - a) n u in rw (one_picked n (e - a) b (omega arith)) (h (e - a) b))
       (λ u. let b = ltb-false (e - a) n u in rw (none_picked n (λ j k z. omega arith)) (omega arith)))
       (λ t. let l = leb-false a e t in rw (none_picked n (λ j k z. omega arith)) (omega arith))

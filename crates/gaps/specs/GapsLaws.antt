@@ -9,7 +9,7 @@ use Rattle.model.specs.Lists.{at, listed}
 use Rattle.model.specs.ListsLaws.{get_d_tabulate, tabulate_ext, and_left, and_right}
 use Rattle.model.specs.Records.{cell}
 use Rattle.model.specs.BackTest.{compared}
-use Rattle.model.specs.Tests.{by-test}
+use Rattle.model.specs.Tests.{by_test}
 use Rattle.gaps.specs.Gaps.{Sizes, cell_from, gap_from, gap_at, gaps, SmallGaps}
 use Rattle.cells.specs.declared.Cell.{Cell}
 use Rattle.years.specs.Ready.{Ready}
@@ -33,7 +33,7 @@ module _ (m n : ℕ) where
   -- a cell that is not compared
   pub not_compared : (c : Cell) (paid : List ℤ) (i j : ℕ) → (n < i) ⊎ ((n ≤ j) ⊎ ((i + j ≤ n) ⊎ (m < i + j))) → gap_from m n c paid i j ≡ pos 0
   unfolding gap_from
-  not_compared c paid i j h = by-test (compared m n i j) (λ e. let y = compared_so m n i j e in absurd (no y h)) (λ e. rw e)
+  not_compared c paid i j h = by_test (compared m n i j) (λ e. let y = compared_so m n i j e in absurd (no y h)) (λ e. rw e)
     where
       no : (i ≤ n) × (j < n) × (n < i + j) × (i + j ≤ m) → (n < i) ⊎ ((n ≤ j) ⊎ ((i + j ≤ n) ⊎ (m < i + j))) → ⊥
       no y (inl h) = omega arith
@@ -48,10 +48,10 @@ module _ (m n : ℕ) where
 -- places that hold 0 anyhow
 pub listed_skip : (n a b : ℕ) (f : ℕ → ℤ) → a ≤ b → ((q : ℕ) → a ≤ q → q < b → f q ≡ pos 0) → listed n a f (pos 0) ≡ listed n b f (pos 0)
 unfolding listed
-listed_skip n a b f h zero-at =
+listed_skip n a b f h zero_at =
     tabulate_ext n (λ q. cond (ltb q a) (f q) (pos 0)) (λ q. cond (ltb q b) (f q) (pos 0))
-    (λ q l. by-test (ltb q a) (λ e. let k = ltb-true q a e in rw (e, lt-ltb q b (omega arith)))
-    (λ e. let k = ltb-false q a e in by-test (ltb q b) (λ u. rw (e, u) (sym (zero-at q k (ltb-true q b u)))) (λ u. rw (e, u))))
+    (λ q l. by_test (ltb q a) (λ e. let k = ltb-true q a e in rw (e, lt-ltb q b (omega arith)))
+    (λ e. let k = ltb-false q a e in by_test (ltb q b) (λ u. rw (e, u) (sym (zero_at q k (ltb-true q b u)))) (λ u. rw (e, u))))
 
 -- cell (k + 1, j) of the list
 pub gaps_at : (m n : ℕ) (c : ℕ → ℕ → Cell) (paid : List ℤ) (k j : ℕ) → k < 20 → j < 20 → cell (gaps m n c paid) (suc k) j ≡ gap_from m n (c (suc k) j) paid (suc k) j
@@ -69,7 +69,7 @@ module _ {m n : ℕ} {paid : List ℤ} (z : Sizes m n paid) where
   pub gap_small : (c : Cell) (i j : ℕ) → 1 ≤ i → (i ≤ n → j < n → (nat_abs c.rbns ≤ 2 * 10 ^ 15) × (nat_abs c.ibnr ≤ 2 * 10 ^ 15)) → nat_abs (gap_from m n c paid i j) ≤ 5 * 10 ^ 15
   unfolding gap_from
   gap_small c i j h small =
-      by-test (compared m n i j)
+      by_test (compared m n i j)
       (λ e. let y = compared_so m n i j e in let s = small y.0 y.1 in rw e (three c.rbns c.ibnr (cell paid i j) s.0 s.1 (z.cells i j h y.3)))
       (λ e. rw e (omega arith))
 

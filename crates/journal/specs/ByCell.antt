@@ -18,7 +18,7 @@ use Rattle.model.specs.Records.{inside, triangle, in_range}
 use Rattle.model.specs.RecordsLaws.{inside_yes}
 use Rattle.model.specs.Questions.{first_no, q1}
 use Rattle.model.specs.QuestionsLaws.{EachYes, numbered, each_yes}
-use Rattle.model.specs.Tests.{by-test}
+use Rattle.model.specs.Tests.{by_test}
 use Rattle.model.specs.Journal.{transaction_at, booked_at, cell_after, q16, q17, q18, of_booking, of_transaction, booked, no_tally, tally_after, of_transactions, is_entry}
 use Rattle.model.specs.declared.JournalTally.{JournalTally}
 use Rattle.model.specs.declared.Transaction.{Transaction}
@@ -36,13 +36,13 @@ module _ (b : ℕ → Bool) (q : ℕ → ℕ) (v : ℕ → ℤ) (a : ℕ → Lis
   grown_length zero h = ap length start ∙ length-replicate 400 (pos 0)
   grown_length (suc k) h =
       let l = grown_length k (omega arith) in
-      ap length (next k (omega arith)) ∙ by-test (b k) (λ e. rw e (length-set (a k) (q k) (at (a k) (q k) +ℤ v k) ∙ l)) (λ e. rw e l)
+      ap length (next k (omega arith)) ∙ by_test (b k) (λ e. rw e (length-set (a k) (q k) (at (a k) (q k) +ℤ v k) ∙ l)) (λ e. rw e l)
 
   -- place p after step k
   grown_at : (k p : ℕ) → k < n → at (a (suc k)) p ≡ cond (b k && eqb (q k) p) (at (a k) (q k) +ℤ v k) (at (a k) p)
   grown_at k p h =
       let s : q k < length (a k) = rw (grown_length k (omega arith)) (low k h) in
-      ap (λ (c : List ℤ). at c p) (next k h) ∙ by-test (b k) (λ e. rw e (get_d_set (a k) (q k) p (at (a k) (q k) +ℤ v k) (pos 0) s)) (λ e. rw e)
+      ap (λ (c : List ℤ). at c p) (next k h) ∙ by_test (b k) (λ e. rw e (get_d_set (a k) (q k) p (at (a k) (q k) +ℤ v k) (pos 0) s)) (λ e. rw e)
 
   -- it holds the sum of what was added there
   pub grown : (k p : ℕ) → k ≤ n → p < 400 → at (a k) p ≡ sum k (λ i. cond (b i && eqb (q i) p) (v i) (pos 0))
@@ -51,7 +51,7 @@ module _ (b : ℕ → Bool) (q : ℕ → ℕ) (v : ℕ → ℤ) (a : ℕ → Lis
   grown (suc k) p h l =
       let g = grown k p (omega arith) l in
       grown_at k p (omega arith)
-      ∙ by-test (b k && eqb (q k) p)
+      ∙ by_test (b k && eqb (q k) p)
       (λ e. rw e (ap (λ (z : ℤ). z +ℤ v k) (ap (at (a k)) (eqb-true (q k) p (and_right (b k) (eqb (q k) p) e)) ∙ g)))
       (λ e. rw e (g ∙ sym (+ℤ_idr (sum k (λ i. cond (b i && eqb (q i) p) (v i) (pos 0))))))
 
@@ -61,7 +61,7 @@ module _ (b : ℕ → Bool) (q : ℕ → ℕ) (v : ℕ → ℤ) (a : ℕ → Lis
   grown_keeps ok none each zero p h l = ap ok (ap (λ (c : List ℤ). at c p) start ∙ get_or-replicate 400 p (pos 0) (pos 0) l) ∙ none
   grown_keeps ok none each (suc k) p h l =
       ap ok (grown_at k p (omega arith))
-      ∙ by-test (b k) (λ e. by-test (eqb (q k) p) (λ y. rw (e, y) (each k (omega arith) e)) (λ y. rw (e, y) (grown_keeps ok none each k p (omega arith) l)))
+      ∙ by_test (b k) (λ e. by_test (eqb (q k) p) (λ y. rw (e, y) (each k (omega arith) e)) (λ y. rw (e, y) (grown_keeps ok none each k p (omega arith) l)))
       (λ e. rw e (grown_keeps ok none each k p (omega arith) l))
 
 -- ---- the cells of good transactions
@@ -69,16 +69,16 @@ module _ (b : ℕ → Bool) (q : ℕ → ℕ) (v : ℕ → ℤ) (a : ℕ → Lis
 -- the place is that of the cell
 place_is : (m : ℕ) (y : Transaction) → Good m y → (p : ℕ) → eqb (booked_at y) p ≡ (eqb y.accident (p / 20 + 1) && eqb y.calendar (p / 20 + 1 + p % 20))
 place_is m y g p =
-    by-test (eqb (booked_at y) p)
+    by_test (eqb (booked_at y) p)
     (λ e. let z : booked_at y ≡ p = eqb-true (booked_at y) p e in rw e (sym (rw (eq-eqb y.accident (p / 20 + 1) (omega arith), eq-eqb y.calendar (p / 20 + 1 + p % 20) (omega arith)))))
     (λ e. let z : booked_at y ≡ p → ⊥ = eqb-false (booked_at y) p e in rw e
-    (sym (by-test (eqb y.accident (p / 20 + 1))
+    (sym (by_test (eqb y.accident (p / 20 + 1))
     (λ s. let w = eqb-true y.accident (p / 20 + 1) s in rw (s, ne_eqb y.calendar (p / 20 + 1 + p % 20) (λ t. z (omega arith)))) (λ s. rw s))))
 
 pub pos_count : (n : ℕ) (p : ℕ → Bool) → pos (count n p) ≡ sum n (λ k. cond (p k) (pos 1) (pos 0))
 unfolding count total sum
 pos_count zero p = refl
-pos_count (suc n) p = by-test (p n) (λ e. rw e (ap (λ (z : ℤ). z +ℤ pos 1) (pos_count n p))) (λ e. rw e (ap (λ (z : ℤ). z +ℤ pos 0) (pos_count n p)))
+pos_count (suc n) p = by_test (p n) (λ e. rw e (ap (λ (z : ℤ). z +ℤ pos 1) (pos_count n p))) (λ e. rw e (ap (λ (z : ℤ). z +ℤ pos 0) (pos_count n p)))
 
 -- ---- an accepted journal
 
@@ -125,13 +125,13 @@ module _ (m : ℕ) (f : List ℕ) (size : q1 m ≡ true) (n : ℕ) (ok : first_n
     outside : inside m i j ≡ false → (k : ℕ) → k < n → there k ≡ false
     outside e k l =
         let g = good_at k l in
-        by-test (eqb (booked_at (x k)) p)
+        by_test (eqb (booked_at (x k)) p)
         (λ s. let z : booked_at (x k) ≡ p = eqb-true (booked_at (x k)) p s in absurd (true≢false (sym (inside_yes m i j (omega arith) (omega arith)) ∙ e)))
         (λ s. rw s (and-false (eqb (x k).kind kind)))
 
     cell_is : sum n (λ k. cond (there k) (v k) (pos 0)) ≡ cond (inside m i j) (sum n (λ k. cond (is_entry f kind i j k) (v k) (pos 0))) (pos 0)
     cell_is =
-        by-test (inside m i j)
+        by_test (inside m i j)
         (λ e. rw e (sum_cong n (λ k l. ap (λ (z : Bool). cond z (v k) (pos 0)) (entry_is k l))))
         (λ e. rw e (sum_nothing n (λ k l. ap (λ (z : Bool). cond z (v k) (pos 0)) (outside e k l))))
 
@@ -147,13 +147,13 @@ module _ (m : ℕ) (f : List ℕ) (size : q1 m ≡ true) (n : ℕ) (ok : first_n
   counts_next : (k : ℕ) → k < n
       → (t (suc k)).counts ≡ cond (eqb (x k).kind 0) (set (t k).counts (booked_at (x k)) (at (t k).counts (booked_at (x k)) +ℤ pos 1)) (t k).counts
   unfolding tally_after booked
-  counts_next k l = by-test (eqb (x k).kind 0) (λ e. rw e) (λ e. rw e)
+  counts_next k l = by_test (eqb (x k).kind 0) (λ e. rw e) (λ e. rw e)
 
   paid_next : (k : ℕ) → k < n
       → (t (suc k)).paid ≡ cond (eqb (x k).kind 1) (set (t k).paid (booked_at (x k)) (at (t k).paid (booked_at (x k)) +ℤ (x k).amount)) (t k).paid
   unfolding tally_after booked
   paid_next k l =
-      by-test (eqb (x k).kind 0) (λ e. rw (e, eqb-true (x k).kind 0 e)) (λ e. rw (e, one_of (x k).kind (good_at k l).kind_is (eqb-false (x k).kind 0 e)))
+      by_test (eqb (x k).kind 0) (λ e. rw (e, eqb-true (x k).kind 0 e)) (λ e. rw (e, one_of (x k).kind (good_at k l).kind_is (eqb-false (x k).kind 0 e)))
 
   counts_none : (t 0).counts ≡ replicate 400 (pos 0)
   unfolding tally_after no_tally

@@ -11,7 +11,7 @@ use Rattle.model.specs.Lengths.{size_so}
 use Rattle.model.specs.SetFile.{file_of}
 use Rattle.model.specs.Journal.{reports, payments}
 use Rattle.model.specs.Calls.{read_answer, accepted_read, write_refusal, replay_refusal}
-use Rattle.model.specs.Tests.{by-test}
+use Rattle.model.specs.Tests.{by_test}
 use Rattle.model.specs.declared.TriangleSet.{TriangleSet}
 use Rattle.set_file.specs.RoundTrip.{read_back}
 use Rattle.journal.specs.ByCell.{counts_ranged, paid_ranged}
@@ -53,7 +53,7 @@ module _ (m : ℕ) (f : List ℕ) (accepted : replay_refusal m f ≡ 0) where
   -- the writer's refusal: 7 for want of room, and nothing else
   pub room_only : (v : ℕ) → is_line v ≡ true → (e : List ℤ) (room : ℕ) → write_refusal m v false (triangle m (reports f)) (triangle m (payments f)) e room ≡ cond (q7_writer m false room) 0 7
   unfolding write_refusal first_no
-  room_only v line e room = rw (size, line, journal_in_range e) (by-test (q7_writer m false room) (λ y. rw y) (λ y. rw y))
+  room_only v line e room = rw (size, line, journal_in_range e) (by_test (q7_writer m false room) (λ y. rw y) (λ y. rw y))
 
   -- what the writer is given is the journal's set
   pub journal_given : (v : ℕ) (e : List ℤ) → given_set m v false (triangle m (reports f)) (triangle m (payments f)) e ≡ journal_set m v f

@@ -24,7 +24,7 @@ use Rattle.model.specs.Questions.{first_no, q1}
 use Rattle.model.specs.Lengths.{size_so}
 use Rattle.model.specs.Journal.{transaction_at, is_report, cell_after, q17, q18, booked, no_tally, tally_after, of_transactions, is_entry, reports, payments}
 use Rattle.model.specs.Calls.{replay_refusal}
-use Rattle.model.specs.Tests.{by-test}
+use Rattle.model.specs.Tests.{by_test}
 use Rattle.model.specs.declared.JournalTally.{JournalTally}
 use Rattle.model.specs.declared.Transaction.{Transaction}
 use Rattle.triangles.specs.Stores.{get_d_set}
@@ -36,7 +36,7 @@ some_entry : (n : ℕ) (p : ℕ → Bool) (v : ℕ → ℤ) → pos 0 ⋖ sum n 
 unfolding sum
 some_entry zero p v h = absurd (omega arith)
 some_entry (suc n) p v h =
-    by-test (p n) (λ e. (n, omega arith, e))
+    by_test (p n) (λ e. (n, omega arith, e))
     (λ e. let s = some_entry n p v (rw (e, +ℤ_idr) at h) in (s.0, omega (arith, s.1), s.2))
 
 -- a count with an entry is above zero
@@ -44,7 +44,7 @@ some_count : (n : ℕ) (p : ℕ → Bool) (k : ℕ) → k < n → p k ≡ true �
 unfolding count total
 some_count zero p k l e = absurd (omega arith)
 some_count (suc n) p k l e =
-    by-test (eqb k n) (λ y. let z : k ≡ n = eqb-true k n y in rw (← z, e) (omega arith))
+    by_test (eqb k n) (λ y. let z : k ≡ n = eqb-true k n y in rw (← z, e) (omega arith))
     (λ y. let z = eqb-false k n y in let s = some_count n p k (omega arith) e in omega arith)
 
 module _ (m : ℕ) (f : List ℕ) (size : q1 m ≡ true) (n : ℕ) (ok : first_no (of_transactions m f n) ≡ 0) where
@@ -58,7 +58,7 @@ module _ (m : ℕ) (f : List ℕ) (size : q1 m ≡ true) (n : ℕ) (ok : first_n
   unfolding tally_after booked no_tally
   claims_length zero = length-replicate {A = ℕ} 4096 0
   claims_length (suc k) =
-      by-test (is_report (x k)) (λ e. rw e (length-set (t k).claims (x k).claim (x k).accident ∙ claims_length k)) (λ e. rw e (claims_length k))
+      by_test (is_report (x k)) (λ e. rw e (length-set (t k).claims (x k).claim (x k).accident ∙ claims_length k)) (λ e. rw e (claims_length k))
 
   in_time : (k : ℕ) → k < n → (t k).last ≤ (x k).calendar
   unfolding q18
@@ -77,11 +77,11 @@ module _ (m : ℕ) (f : List ℕ) (size : q1 m ≡ true) (n : ℕ) (ok : first_n
   unfolding tally_after booked no_tally
   has_report zero c y h l u e = let z : 0 ≡ y = sym (get_or-replicate 4096 c 0 0 l) ∙ e in absurd (omega arith)
   has_report (suc k) c y h l u e =
-      by-test (is_report (x k))
+      by_test (is_report (x k))
       (λ r.
       let s : (x k).claim < length (t k).claims = rw (claims_length k) (good_at m f size n ok k h).claim_is in
       let g : cond (eqb (x k).claim c) (x k).accident (get_or (t k).claims c 0) ≡ y = sym (get_d_set (t k).claims (x k).claim c (x k).accident 0 s) ∙ rw r at e in
-      by-test (eqb (x k).claim c) (λ w. (k, omega arith, eqb-true (x k).kind 0 r, rw w at g, omega arith))
+      by_test (eqb (x k).claim c) (λ w. (k, omega arith, eqb-true (x k).kind 0 r, rw w at g, omega arith))
       (λ w. later k y h (has_report k c y (omega arith) l u (rw w at g))))
       (λ r. later k y h (has_report k c y (omega arith) l u (rw r at e)))
 

@@ -14,7 +14,7 @@ use Rattle.model.specs.Rounding.{S, r}
 use Rattle.model.specs.Shares as Shares
 use Rattle.model.specs.Shares.{latest, A, B, g, g_down, g_list, b_list, ultimate}
 use Rattle.model.specs.QuestionsLaws.{within_so, within_yes}
-use Rattle.model.specs.Tests.{by-test}
+use Rattle.model.specs.Tests.{by_test}
 use Rattle.ladder.specs.SharesLaws.{NotNegative, Sound, g_range, g_down_lem, at_g_list}
 use Rattle.ladder.specs.Sums.{Small, latests, a_sums, b_sums}
 use Rattle.ladder.specs.SumsLaws.{latest_small, A-small, B-small}
@@ -181,7 +181,7 @@ module _ (m : ℕ) (t : List ℤ) (some : 1 ≤ m) (small : Small m (10 ^ 10) t)
   -- of cells that are not negative each is in its bounds where g(0) is at least 10^6
   pub bounded_first : NotNegative m t → ((j : ℕ) → 1 ≤ j → j < m → pos 0 ⋖ B m t j) → every m (λ j. bounded (g m t j)) ≡ le_z (pos (10 ^ 6)) (g m t 0)
   bounded_first cells columns =
-      by-test (le_z (pos (10 ^ 6)) (g m t 0))
+      by_test (le_z (pos (10 ^ 6)) (g m t 0))
       (λ e. let low : pos (10 ^ 6) ⩽ g m t 0 = le_yes e in
       let sound : Sound m t = record { cells = cells; columns = columns; first = above low } in
       every_all (λ j. bounded (g m t j)) m

@@ -8,7 +8,7 @@ use Rattle.std.proofs.Math.ListN.{drop}
 use Rattle.integers.specs.Sums.{sum_cong}
 use Rattle.model.specs.Lists.{at}
 use Rattle.model.specs.ListsLaws.{tabulate_ext, and_right}
-use Rattle.model.specs.Tests.{by-test}
+use Rattle.model.specs.Tests.{by_test}
 use Rattle.model.specs.Shares.{b_list}
 use Rattle.model.specs.Cells.{year_of, delay_of, size, s_list, pairs, rbns_from, ibnr_from, rbns, ibnr, entry, entries, output_from}
 use Rattle.model.specs.declared.TriangleSet.{TriangleSet}
@@ -19,7 +19,7 @@ module _ (m : ℕ) (p p' : List ℤ) (same : (k : ℕ) → k < m → at p k ≡ 
   unfolding pairs
   same_pairs j ok x =
       sum_cong m
-      (λ k _. by-test (ok k && leb k j && ltb (j - k) m) (λ t. rw t (ap (λ (y : ℤ). at x k *ℤ y) (same (j - k) (ltb-true (j - k) m (and_right (ok k && leb k j) (ltb (j - k) m) t))))) (λ t. rw t))
+      (λ k _. by_test (ok k && leb k j && ltb (j - k) m) (λ t. rw t (ap (λ (y : ℤ). at x k *ℤ y) (same (j - k) (ltb-true (j - k) m (and_right (ok k && leb k j) (ltb (j - k) m) t))))) (λ t. rw t))
 
   module _ (s : TriangleSet) (method basis : ℕ) where
     same_rbns : (i j : ℕ) → rbns m s p method basis i j ≡ rbns m s p' method basis i j

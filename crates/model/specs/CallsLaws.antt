@@ -8,7 +8,7 @@ use Rattle.model.specs.Records.{has_incurred}
 use Rattle.model.specs.Questions.{Question, q6, first_no, of_file, of_records}
 use Rattle.model.specs.QuestionsLaws.{EachYes, numbered, each_yes, stage_no, stage_yes, stages_so}
 use Rattle.model.specs.Calls.{if_accepted, call_refusal, read_refusal, forecast_refusal, forecast_answer}
-use Rattle.model.specs.Tests.{by-test}
+use Rattle.model.specs.Tests.{by_test}
 use Rattle.model.specs.declared.ForecastAnswer.{ForecastAnswer}
 
 -- ---- what is handed back beside the refusal number n
@@ -21,15 +21,15 @@ module _ {A : Type 0} (n : ℕ) (yes no : A) where
 
   -- where each holds its own number, so does the answer
   pub number_of : (number : A → ℕ) → number yes ≡ 0 → number no ≡ n → number (if_accepted n yes no) ≡ n
-  number_of number y o = by-test (eqb n 0) (λ t. let z : n ≡ 0 = eqb-true n 0 t in rw t (y ∙ sym z)) (λ t. rw t o)
+  number_of number y o = by_test (eqb n 0) (λ t. let z : n ≡ 0 = eqb-true n 0 t in rw t (y ∙ sym z)) (λ t. rw t o)
 
 -- a part of what is accepted, over what stands there, is that part of the answer
 pub beside : {A B : Type 0} (n : ℕ) (a b : A) (part : A → B) (x : B) → if_accepted n (part a) x ≡ if_accepted n (part (if_accepted n a b)) x
-beside n a b part x = by-test (eqb n 0) (λ t. rw t) (λ t. rw t)
+beside n a b part x = by_test (eqb n 0) (λ t. rw t) (λ t. rw t)
 
 -- what is written of an answer over what stands beside its refusal is the answer's
 pub as_answered : {A B : Type 0} (n : ℕ) (a b : A) (part : A → B) (x : B) → part b ≡ x → if_accepted n (part (if_accepted n a b)) x ≡ part (if_accepted n a b)
-as_answered n a b part x e = by-test (eqb n 0) (λ t. rw t) (λ t. rw (t, e))
+as_answered n a b part x e = by_test (eqb n 0) (λ t. rw t) (λ t. rw (t, e))
 
 -- ---- the questions of the file, then the call's own, then those of the set
 module _ (m : ℕ) (f : List ℕ) (own of_set : List Question) where
@@ -136,7 +136,7 @@ module _ (m : ℕ) (f : List ℕ) (method basis : ℕ) where
     unfolding call_refusal first_no
     call_so z =
         let a = both_so own z in
-        by-test x (λ e. (a.0, e, rw e at a.1)) (λ e. absurd (let n : suc k ≡ 0 = rw e at a.1 in omega arith))
+        by_test x (λ e. (a.0, e, rw e at a.1)) (λ e. absurd (let n : suc k ≡ 0 = rw e at a.1 in omega arith))
 
 -- ---- the forecast
 pub forecast_refusal_lem : (m : ℕ) (f : List ℕ) (method basis room : ℕ) {a : ForecastAnswer} → a ≡ forecast_answer m f method basis room → a.refusal ≡ forecast_refusal m f method basis room

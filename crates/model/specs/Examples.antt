@@ -211,11 +211,11 @@ unfolding
 opened = 0
 
 -- 2.5, 3.5, -2.5 and -3.5; 0.5 and -0.5; and below and above a half, 2.4 and -2.6
-pub halves-to-even :
+pub halves_to_even :
     (r (pos 5) (pos 2) ≡ pos 2) × (r (pos 7) (pos 2) ≡ pos 4) × (r (negsuc 4) (pos 2) ≡ negsuc 1) × (r (negsuc 6) (pos 2) ≡ negsuc 3)
     × (r (pos 1) (pos 2) ≡ pos 0) × (r (negsuc 0) (pos 2) ≡ pos 0) × (r (pos 12) (pos 5) ≡ pos 2) × (r (negsuc 12) (pos 5) ≡ negsuc 2)
 unfolding opened
-halves-to-even = (refl, refl, refl, refl, refl, refl, refl, refl)
+halves_to_even = (refl, refl, refl, refl, refl, refl, refl, refl)
 
 -- the definitions give every value of the table
 pub examples : T (right table)
@@ -227,8 +227,8 @@ pub n_rounded : (m : ℕ) (f : List ℕ) (i : ℕ) → ultimate m (set_of m f).c
 unfolding ultimate above below
 n_rounded m f i = refl
 
-pub rbns-rounded :
+pub rbns_rounded :
     (m : ℕ) (f : List ℕ) (method i j : ℕ)
     → rbns_from m (row_base m (set_of m f) method i) (s_list m (set_of m f) 1 i) (delays_of m (set_of m f)) i j ≡ r (above m f (of_rbns method i j)) (below m f (of_rbns method i j))
 unfolding rbns_from s_list above below
-rbns-rounded m f method i j = refl
+rbns_rounded m f method i j = refl

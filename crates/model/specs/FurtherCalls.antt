@@ -17,11 +17,11 @@ five =
     ((pos 500 ∷ pos 300 ∷ pos 100 ∷ pos 60 ∷ pos 10 ∷ []) ∷ (pos 620 ∷ pos 350 ∷ pos 90 ∷ pos 40 ∷ []) ∷ (pos 540 ∷ pos 410 ∷ pos 80 ∷ []) ∷ (pos 690 ∷ pos 380 ∷ []) ∷ (pos 700 ∷ []) ∷ []) []
 
 -- three cells, and all three errors differ; of m = 4 with cut 1 two cells, with cut 2 one
-pub cut-sets :
+pub cut_sets :
     (back_test_of 5 five 2 0 0 ≡ accepted_back_test 4 3 154 94 40) × (back_test_of 4 four 1 0 0 ≡ accepted_back_test 4 2 127 67 67)
     × (back_test_of 4 four 2 0 0 ≡ accepted_back_test 4 1 22 22 22)
 unfolding opened_further five
-cut-sets = (refl, refl, refl)
+cut_sets = (refl, refl, refl)
 
 -- 8: of m = 4 the cut may be 2, but neither 3 nor 0; and a file of m = 2, which has no cut
 pub cuts : (q8 4 2 ≡ true) × (q8 4 3 ≡ false) × (q8 4 0 ≡ false) × (back_test_answer 2 K 1 0 0 ≡ refused_back_test 8)
@@ -43,11 +43,11 @@ given x y z = lent_cells (less (2 ^ 63)) x y z
 
 -- 02, Job 2: the file of K without incurred, by kind, year and delay; and Job 7: each record has the
 -- line
-pub written-order :
+pub written_order :
     write_output 2 3 false (given (pos 80) (pos 20) (pos 90)) (given (pos 600) (pos 400) (pos 660)) (given (pos 900) (pos 100) (pos 1080)) (replicate 96 7)
     ≡ relined 3 (two 0 80 20 90 ++ two 1 600 400 660)
 unfolding opened_further
-written-order = refl
+written_order = refl
 
 -- m, the line and a value out of range, and no room: 1 comes before 3, and 3 before 5 and 7
 pub unwritten : (write_refusal 1 6 false (given (less 1) (pos 20) (pos 90)) [] [] 0 ≡ 1) × (write_refusal 2 6 false (given (less 1) (pos 20) (pos 90)) [] [] 0 ≡ 3)

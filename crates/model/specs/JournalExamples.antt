@@ -41,11 +41,11 @@ unfolding
 opened_journal = 0
 
 -- its cells over the whole list
-pub by-cell :
+pub by_cell :
     (reports journal 1 1 ≡ pos 1) × (payments journal 1 2 ≡ pos 100)
     × (triangle 3 (reports journal) ≡ rows 1 1 0 1 0 0) × (triangle 3 (payments journal) ≡ rows 0 500 100 0 9 0)
 unfolding opened_journal
-by-cell = (refl, refl, refl, refl)
+by_cell = (refl, refl, refl, refl)
 
 -- a journal of nothing clears the tally, a refused one leaves it
 pub cleared : ((replay_tally 2 [] handed).last ≡ 0) × (replay_tally 2 [] handed ≡ no_tally) × (replay_tally 2 (pay 7 1 1 5) handed ≡ handed)

@@ -7,7 +7,7 @@ use borrow.Author.Tests.{leb-true, eq-eqb, ne_eqb, eqb-true}
 use Rattle.model.specs.ListsLaws.{and_left, and_right}
 use Rattle.model.specs.Records.{set_length, has_incurred}
 use Rattle.model.specs.Questions.{q1, q2, kinds}
-use Rattle.model.specs.Tests.{by-test}
+use Rattle.model.specs.Tests.{by_test}
 
 pub cells_most : (m : ℕ) → m ≤ 20 → m * (m + 1) ≤ 420
 cells_most m hi = let h : m + 1 ≤ 21 = omega arith in mul-le-mul hi h
@@ -47,5 +47,5 @@ module _ (m : ℕ) (f : List ℕ) where
   pub length_so : q2 m f ≡ true → length f ≡ set_length m (has_incurred m f)
   unfolding q2 has_incurred
   length_so e =
-      by-test (eqb (length f) (set_length m true)) (λ y. rw y (eqb-true (length f) (set_length m true) y))
+      by_test (eqb (length f) (set_length m true)) (λ y. rw y (eqb-true (length f) (set_length m true) y))
       (λ y. rw y (eqb-true (length f) (set_length m false) (sym (or-false (eqb (length f) (set_length m false))) ∙ rw y at e)))

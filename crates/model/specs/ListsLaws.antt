@@ -4,7 +4,7 @@ use Rattle.std.proofs.Common.{sym, ◌∙◌, ap, ap₂, subst, ⊎_elim, le_of_
 use Rattle.std.proofs.Math.Bool.{and-false}
 use Rattle.std.proofs.lemmas.Bool.{false≢true}
 use Rattle.model.specs.Lists.{tabulate, listed, chained, every, total}
-use Rattle.model.specs.Tests.{by-test}
+use Rattle.model.specs.Tests.{by_test}
 
 -- ---- lists made place by place
 
@@ -81,7 +81,7 @@ get_or_listed_past n m f d k x h l = get_d_tabulate n (λ k. cond (ltb k m) (f k
 -- equal entries
 pub listed_ext : {A : Type 0} (n m : ℕ) (f g : ℕ → A) (d : A) → ((k : ℕ) → k < m → f k ≡ g k) → listed n m f d ≡ listed n m g d
 unfolding listed
-listed_ext n m f g d e = tabulate_ext n (λ k. cond (ltb k m) (f k) d) (λ k. cond (ltb k m) (g k) d) (λ k h. by-test (ltb k m) (λ q. rw (q, e k (ltb-true k m q))) (λ q. rw q))
+listed_ext n m f g d e = tabulate_ext n (λ k. cond (ltb k m) (f k) d) (λ k. cond (ltb k m) (g k) d) (λ k h. by_test (ltb k m) (λ q. rw (q, e k (ltb-true k m q))) (λ q. rw q))
 
 -- a list that is filled to its end
 pub listed_whole : {A : Type 0} (n : ℕ) (f : ℕ → A) (d : A) → listed n n f d ≡ tabulate n f
@@ -106,7 +106,7 @@ listed_more {A} n i f d h =
 
     same : (k : ℕ) → (k ≡ i → ⊥) → cond (ltb k (i + 1)) (f k) d ≡ cond (ltb k i) (f k) d
     same k o =
-        by-test (ltb k i) (λ e. let l : k < i = ltb-true k i e in rw (lt-ltb k (i + 1) (omega arith), e))
+        by_test (ltb k i) (λ e. let l : k < i = ltb-true k i e in rw (lt-ltb k (i + 1) (omega arith), e))
         (λ e. rw (le-ltb k (i + 1) (next k (ltb-false k i e) o), e))
 
 -- the same for a list and a number that are known to be these

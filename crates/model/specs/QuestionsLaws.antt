@@ -9,7 +9,7 @@ use Rattle.integers.specs.Order.{le_yes, le_z_true, le_z_false}
 use Rattle.model.specs.Lists.{every}
 use Rattle.model.specs.ListsLaws.{every_at, every_all, and_left, and_right}
 use Rattle.model.specs.Questions.{Question, within, uses_incurred, first_no, each_cell, of_shares, of_delays, of_method, of_forecast}
-use Rattle.model.specs.Tests.{by-test}
+use Rattle.model.specs.Tests.{by_test}
 use Rattle.model.specs.declared.TriangleSet.{TriangleSet}
 
 -- ---- lists of questions
@@ -56,7 +56,7 @@ module _ (xs ys : List Question) (h : numbered xs ≡ true) where
   -- both pass
   pub stages_so : first_no (xs ++ ys) ≡ 0 → (first_no xs ≡ 0) × (first_no ys ≡ 0)
   stages_so e =
-      by-test (eqb (first_no xs) 0) (λ t. let z = eqb-true (first_no xs) 0 t in (z, sym (stage_yes z) ∙ e))
+      by_test (eqb (first_no xs) 0) (λ t. let z = eqb-true (first_no xs) 0 t in (z, sym (stage_yes z) ∙ e))
       (λ t. let o = eqb-false (first_no xs) 0 t in absurd (o (sym (stage_no o) ∙ e)))
 
 -- a question that got a yes may have any number
@@ -69,7 +69,7 @@ passed_over ((n, false) ∷ xs) ys a b = refl
 -- those of a set that is to be forecast
 pub forecast_numbered : (m : ℕ) (s : TriangleSet) (p : List ℤ) (method : ℕ) → numbered (of_forecast m s p method) ≡ true
 unfolding numbered of_forecast of_shares of_delays of_method
-forecast_numbered m s p method = by-test (uses_incurred method) (λ t. rw t) (λ t. rw t)
+forecast_numbered m s p method = by_test (uses_incurred method) (λ t. rw t) (λ t. rw t)
 
 -- ---- a number between two bounds
 

@@ -4,7 +4,7 @@ use Rattle.std.proofs.Common.{sym, ◌∙◌, arith, le-leb, leb-true}
 use Rattle.std.proofs.lemmas.List.{length-replicate, get_or-replicate}
 use Rattle.model.specs.ListsLaws.{get_d_tabulate, is_tabulate, tabulate_ext, and_left, and_right}
 use Rattle.model.specs.Records.{inside, cell, triangle}
-use Rattle.model.specs.Tests.{by-test}
+use Rattle.model.specs.Tests.{by_test}
 
 pub inside_yes : (m i j : ℕ) → 1 ≤ i → i + j ≤ m → inside m i j ≡ true
 inside_yes m i j h l = rw (le-leb 1 i h, le-leb (i + j) m l)
@@ -26,7 +26,7 @@ pub triangle_ext : (m : ℕ) (v w : ℕ → ℕ → ℤ) → ((i j : ℕ) → 1 
 unfolding triangle
 triangle_ext m v w h =
     tabulate_ext 400 _ _
-    (λ p l. by-test (inside m (p / 20 + 1) (p % 20)) (λ y. let b = inside_so m (p / 20 + 1) (p % 20) y in rw (y, h (p / 20 + 1) (p % 20) b.0 b.1)) (λ y. rw y))
+    (λ p l. by_test (inside m (p / 20 + 1) (p % 20)) (λ y. let b = inside_so m (p / 20 + 1) (p % 20) y in rw (y, h (p / 20 + 1) (p % 20) b.0 b.1)) (λ y. rw y))
 
 -- the cells of a triangle make it again
 pub triangle_again : (m : ℕ) (v : ℕ → ℕ → ℤ) → m ≤ 20 → triangle m (cell (triangle m v)) ≡ triangle m v
@@ -38,4 +38,4 @@ unfolding triangle
 triangle_zeros m v h =
     sym
     (is_tabulate 400 _ (replicate 400 (pos 0)) (pos 0) (length-replicate 400 (pos 0))
-    (λ p l. get_or-replicate 400 p (pos 0) (pos 0) l ∙ by-test (inside m (p / 20 + 1) (p % 20)) (λ y. rw (y, h (p / 20 + 1) (p % 20))) (λ y. rw y)))
+    (λ p l. get_or-replicate 400 p (pos 0) (pos 0) l ∙ by_test (inside m (p / 20 + 1) (p % 20)) (λ y. rw (y, h (p / 20 + 1) (p % 20))) (λ y. rw y)))

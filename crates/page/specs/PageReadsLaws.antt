@@ -10,7 +10,7 @@ use native.Mathlib.Omega.{arith, not-le}
 use Rattle.std.proofs.Math.ListN.{length-append}
 use Rattle.integers.specs.Sums.{sum}
 use Rattle.model.specs.Lists.{at}
-use Rattle.model.specs.Tests.{by-test}
+use Rattle.model.specs.Tests.{by_test}
 use Rattle.model.specs.Calendar.{digits, amount, value_from, line, lines, all_lines, tally_text}
 use Rattle.model.specs.Page.{aligned, columns, heading, page_line, page_text}
 use Rattle.model.specs.Examples.{printed}
@@ -36,7 +36,7 @@ reading_example = (refl, refl)
 
 module _ (e : ℕ) (o : is_digit e ≡ false) where
   no_digit : (b : ℕ) → is_digit b ≡ true → other e b ≡ true
-  no_digit b h = by-test (eqb b e) (λ q. absurd (false≢true (sym o ∙ ap is_digit (sym (eqb-true b e q)) ∙ h))) (λ q. rw q)
+  no_digit b h = by_test (eqb b e) (λ q. absurd (false≢true (sym o ∙ ap is_digit (sym (eqb-true b e q)) ∙ h))) (λ q. rw q)
 
   digits_free : (n : ℕ) → All (other e) (digits n)
   digits_free n = all_pass no_digit (digits_are n)

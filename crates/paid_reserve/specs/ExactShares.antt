@@ -39,17 +39,17 @@ one_more n u a b p h =
 -- one step from x and t / u, by the factor a / b: half a unit more comes in, and no error grows
 next_apart : (n : ℕ) (x t u a b : ℤ) → pos 0 ⋖ a → a ⩽ b → pos 0 ⋖ b → Apart n x (record { upper = t; lower = u })
     → Apart (suc n) (r (x *ℤ a) b) (times (record { upper = t; lower = u }) (record { upper = a; lower = b }))
-next_apart n x t u a b a-pos a_b b_pos h = record {
-  upper_pos = *ℤ_pos h.upper_pos a-pos;
+next_apart n x t u a b a_pos a_b b_pos h = record {
+  upper_pos = *ℤ_pos h.upper_pos a_pos;
   lower_pos = *ℤ_pos h.lower_pos b_pos;
   at_most-S =
       nlin (t ∷ u ∷ a ∷ b ∷ S ∷ [])
-      (*ℤ_mono_r a (<ℤ-≤ℤ a-pos) h.at_most-S & *ℤ_mono_l (S *ℤ u) (*ℤ_nonneg (<ℤ-≤ℤ S_pos) u_low) a_b)
+      (*ℤ_mono_r a (<ℤ-≤ℤ a_pos) h.at_most-S & *ℤ_mono_l (S *ℤ u) (*ℤ_nonneg (<ℤ-≤ℤ S_pos) u_low) a_b)
       (search nstmt depth 20) (omega arith);
   apart =
       half-≤
       (half_is (ring (x ∷ r (x *ℤ a) b ∷ t ∷ u ∷ a ∷ b ∷ []) (search form depth 20) tt)
-      (half-+ (half-*⁺ a (<ℤ-≤ℤ a-pos) h.apart) (half-*⁺ u u_low (by_half (r_near.near (x *ℤ a) b b_pos)))))
+      (half-+ (half-*⁺ a (<ℤ-≤ℤ a_pos) h.apart) (half-*⁺ u u_low (by_half (r_near.near (x *ℤ a) b b_pos)))))
       (one_more n u a b u_low a_b);
 }
   where

@@ -36,20 +36,20 @@ bound_algebra : (s g t u c w z i : ℤ) (n : ℕ) → i ≡ pos n +ℤ pos 1 →
     → Half (g *ℤ w -ℤ c *ℤ s) g
     → Half (g *ℤ u -ℤ t) (pos n *ℤ u)
     → Half (g *ℤ (z *ℤ t -ℤ (c *ℤ s *ℤ u -ℤ c *ℤ t))) (pos 2 *ℤ (i *ℤ g *ℤ t +ℤ pos n *ℤ (c *ℤ s *ℤ u)))
-bound_algebra s g t u c w z i n one small s-pos g_pos g-s t-pos t-s c_low hz hw hg =
-    half_cancel s s-pos (half-≤ (half_is split errors) small_enough)
+bound_algebra s g t u c w z i n one small s_pos g_pos g_s t_pos t_s c_low hz hw hg =
+    half_cancel s s_pos (half-≤ (half_is split errors) small_enough)
   where
     c_s : pos 0 ⩽ c *ℤ s
-    c_s = *ℤ_nonneg c_low (<ℤ-≤ℤ s-pos)
+    c_s = *ℤ_nonneg c_low (<ℤ-≤ℤ s_pos)
 
     t_g : pos 0 ⩽ t *ℤ g
-    t_g = *ℤ_nonneg (<ℤ-≤ℤ t-pos) (<ℤ-≤ℤ g_pos)
+    t_g = *ℤ_nonneg (<ℤ-≤ℤ t_pos) (<ℤ-≤ℤ g_pos)
 
     errors : Half (t *ℤ g *ℤ (s *ℤ z -ℤ w *ℤ (s -ℤ g)) +ℤ c *ℤ s *ℤ s *ℤ neg_ℤ (g *ℤ u -ℤ t) +ℤ t *ℤ (s -ℤ g) *ℤ (g *ℤ w -ℤ c *ℤ s))
         (t *ℤ g *ℤ (pos n *ℤ (pos 2 *ℤ s +ℤ w)) +ℤ c *ℤ s *ℤ s *ℤ (pos n *ℤ u) +ℤ t *ℤ (s -ℤ g) *ℤ g)
     errors =
-        half-+ (half-+ (half-*⁺ (t *ℤ g) t_g hz) (half-*⁺ (c *ℤ s *ℤ s) (*ℤ_nonneg c_s (<ℤ-≤ℤ s-pos)) (half_neg hg)))
-        (half-*⁺ (t *ℤ (s -ℤ g)) (*ℤ_nonneg (<ℤ-≤ℤ t-pos) (sub_nonneg.0 g-s)) hw)
+        half-+ (half-+ (half-*⁺ (t *ℤ g) t_g hz) (half-*⁺ (c *ℤ s *ℤ s) (*ℤ_nonneg c_s (<ℤ-≤ℤ s_pos)) (half_neg hg)))
+        (half-*⁺ (t *ℤ (s -ℤ g)) (*ℤ_nonneg (<ℤ-≤ℤ t_pos) (sub_nonneg.0 g_s)) hw)
 
     split : t *ℤ g *ℤ (s *ℤ z -ℤ w *ℤ (s -ℤ g)) +ℤ c *ℤ s *ℤ s *ℤ neg_ℤ (g *ℤ u -ℤ t) +ℤ t *ℤ (s -ℤ g) *ℤ (g *ℤ w -ℤ c *ℤ s)
         ≡ s *ℤ (g *ℤ (z *ℤ t -ℤ (c *ℤ s *ℤ u -ℤ c *ℤ t)))
@@ -59,11 +59,11 @@ bound_algebra s g t u c w z i n one small s-pos g_pos g-s t-pos t-s c_low hz hw 
         ⩽ s *ℤ (pos 2 *ℤ (i *ℤ g *ℤ t +ℤ pos n *ℤ (c *ℤ s *ℤ u)))
     small_enough =
         nlin (s ∷ g ∷ t ∷ u ∷ c ∷ w ∷ i ∷ pos n ∷ [])
-        (*ℤ_mono_r (pos n *ℤ t) (*ℤ_nonneg (nonneg n) (<ℤ-≤ℤ t-pos)) (half_up hw)
-        & *ℤ_mono_r (pos n *ℤ (c *ℤ s)) (*ℤ_nonneg (nonneg n) c_s) t-s
+        (*ℤ_mono_r (pos n *ℤ t) (*ℤ_nonneg (nonneg n) (<ℤ-≤ℤ t_pos)) (half_up hw)
+        & *ℤ_mono_r (pos n *ℤ (c *ℤ s)) (*ℤ_nonneg (nonneg n) c_s) t_s
         & *ℤ_mono_r (t *ℤ g) t_g small
         & *ℤ_nonneg t_g (<ℤ-≤ℤ g_pos)
-        & *ℤ_nonneg t_g (<ℤ-≤ℤ s-pos)
+        & *ℤ_nonneg t_g (<ℤ-≤ℤ s_pos)
         & ap (λ (x : ℤ). x *ℤ (s *ℤ t *ℤ g)) one)
         (search nstmt depth 20) (omega arith)
 
@@ -72,13 +72,13 @@ fraction_algebra : (s g t u c z i : ℤ) (n : ℕ) → pos 0 ⋖ g → pos 0 ⋖
     → Half (g *ℤ (z *ℤ t -ℤ (c *ℤ s *ℤ u -ℤ c *ℤ t))) (pos 2 *ℤ (i *ℤ g *ℤ t +ℤ pos n *ℤ (c *ℤ s *ℤ u)))
     → (let e : Fraction = record { upper = t; lower = u } in
     AtMost (distance (whole z) (minus (over (whole (c *ℤ s)) e) (whole c))) (plus (whole i) (over (times (whole (pos n)) (over (whole (c *ℤ s)) e)) (whole g))))
-fraction_algebra s g t u c z i n g_pos t-pos h = record {
-  left_lower = nlin (t ∷ []) t-pos (search nstmt depth 20) (omega arith);
-  right_lower = nlin (t ∷ g ∷ []) (*ℤ_pos t-pos g_pos) (search nstmt depth 20) (omega arith);
+fraction_algebra s g t u c z i n g_pos t_pos h = record {
+  left_lower = nlin (t ∷ []) t_pos (search nstmt depth 20) (omega arith);
+  right_lower = nlin (t ∷ g ∷ []) (*ℤ_pos t_pos g_pos) (search nstmt depth 20) (omega arith);
   multiplied_out =
       rw same
       (nlin (∣ gap ∣ ∷ s ∷ g ∷ t ∷ u ∷ c ∷ i ∷ pos n ∷ [])
-      (*ℤ_mono_r t (<ℤ-≤ℤ t-pos) (rw (abs-* g gap, abs_of (<ℤ-≤ℤ g_pos)) at h.half)) (search nstmt depth 20) (omega arith));
+      (*ℤ_mono_r t (<ℤ-≤ℤ t_pos) (rw (abs-* g gap, abs_of (<ℤ-≤ℤ g_pos)) at h.half)) (search nstmt depth 20) (omega arith));
 }
   where
     gap : ℤ

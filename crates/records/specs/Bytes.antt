@@ -5,7 +5,7 @@ use native.Mathlib.Omega.{arith}
 use Rattle.std.proofs.Math.Bool.{and-true, and_assoc}
 use Rattle.model.specs.ListsLaws.{and_left, and_right}
 use Rattle.model.specs.Records.{least_first, line_at, spares_zero, inside, is_line}
-use Rattle.model.specs.Tests.{by-test, same_test}
+use Rattle.model.specs.Tests.{by_test, same_test}
 use Rattle.records.specs.OneRecord.{Number, HeadAt, well_formed}
 
 zero_both : (x y : ℕ) → eqb (x + 256 * y) 0 ≡ (eqb x 0 && eqb y 0)
@@ -49,7 +49,7 @@ module _ (f : List ℕ) where
 
   pub bytes_then : (n k a : ℕ) → ((i : ℕ) → i < n → get_or f (a + i) 0 < 256) → ((i : ℕ) → i < k → get_or f (a + n + i) 0 < 256) → (i : ℕ) → i < n + k → get_or f (a + i) 0 < 256
   bytes_then n k a front back i h =
-      by-test (ltb i n) (λ e. front i (ltb-true i n e))
+      by_test (ltb i n) (λ e. front i (ltb-true i n e))
       (λ e. let l = ltb-false i n e in let z : a + n + (i - n) ≡ a + i = omega arith in rw z at (back (i - n) (omega arith)))
 
   -- the last four of eight

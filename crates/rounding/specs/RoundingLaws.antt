@@ -14,7 +14,7 @@ use Rattle.integers.specs.Monomials.{nlin, nstmt}
 use Rattle.integers.specs.Order.{<ℤ_or-≥, <ℤ-≤ℤ, <ℤ_suc, *ℤ_mono_r, ≤ℤ_antisym, nonneg, pos_mono, nat_abs-≤, nat_abs_mono, nat_abs-neg_ℤ}
 use Rattle.integers.specs.Absolute.{∣◌∣}
 use Rattle.model.specs.Rounding.{S, even_of, nearest, r, WithinHalf}
-use Rattle.model.specs.Tests.{by-test}
+use Rattle.model.specs.Tests.{by_test}
 
 pub S_pos : pos 0 ⋖ S
 unfolding S
@@ -29,10 +29,10 @@ even_between k = (omega arith, omega arith)
 nearest_bounds : (a b : ℕ) → 0 < b → (2 * (nearest a b * b) ≤ 2 * a + b) × (2 * a ≤ 2 * (nearest a b * b) + b)
 unfolding nearest
 nearest_bounds a b h =
-    by-test (ltb (2 * (a % b)) b)
+    by_test (ltb (2 * (a % b)) b)
     (λ e. let l = ltb-true (2 * (a % b)) b e in rw e (omega (arith, div-add-mod' a b), omega (arith, div-add-mod' a b)))
     (λ e. let l = ltb-false (2 * (a % b)) b e in
-    by-test (ltb b (2 * (a % b)))
+    by_test (ltb b (2 * (a % b)))
     (λ f. rw (e, f) (omega (arith, div-add-mod' a b, suc-mul (a / b) b), omega (arith, div-add-mod' a b, suc-mul (a / b) b, mod-lt a h)))
     (λ f. let u = ltb-false b (2 * (a % b)) f in
     let low = mul-le-mul (even_between (a / b)).0 (le_refl b) in
@@ -167,7 +167,7 @@ unfolding nearest even_of
 up_to_half k c b h e l =
     let c<b : c < b = omega arith in
     rw (digits_mod k c<b, digits_div k c<b)
-    (by-test (ltb (2 * c) b) (λ t. rw t refl)
+    (by_test (ltb (2 * c) b) (λ t. rw t refl)
     (λ t. let g = ltb-false (2 * c) b t in rw (t, le-ltb b (2 * c) l) (omega arith)))
 
 -- and from half of b on, where k + 1 is even
@@ -175,7 +175,7 @@ from_half : (k c b : ℕ) → suc k % 2 ≡ 0 → b ≤ 2 * c → c < b → near
 unfolding nearest even_of
 from_half k c b e l c<b =
     rw (digits_mod k c<b, digits_div k c<b, le-ltb (2 * c) b l)
-    (by-test (ltb b (2 * c)) (λ t. rw t refl)
+    (by_test (ltb b (2 * c)) (λ t. rw t refl)
     (λ t. rw t (omega arith)))
 
 -- the same of integers

@@ -8,7 +8,7 @@ use Rattle.integers.specs.Linear.{◌&◌}
 use Rattle.integers.specs.Monomials.{nlin, nstmt}
 use Rattle.integers.specs.Order.{lt_yes, lt_no, ≤ℤ_antisym, nat_abs-neg_ℤ}
 use Rattle.model.specs.Rounding.{r}
-use Rattle.model.specs.Tests.{by-test}
+use Rattle.model.specs.Tests.{by_test}
 use Rattle.rounding.specs.RoundingLaws.{r_mirror, r_quotient, r_even}
 
 -- how many numbers on, with so much left above q and so much missing to the next number: none where
@@ -21,16 +21,16 @@ step_less q left missing h = rw h
 
 pub step_more : (q left missing : ℤ) → lt_z left missing ≡ false → (left ≡ missing → ⊥) → step_of q left missing ≡ pos 1
 step_more q left missing h d =
-    by-test (lt_z missing left) (λ e. rw (h, e))
+    by_test (lt_z missing left) (λ e. rw (h, e))
     (λ e. absurd (d (≤ℤ_antisym (lt_no {a = missing} {b = left} e) (lt_no {a = left} {b = missing} h))))
 
 pub step_half : (q x : ℤ) → step_of q x x ≡ pos (nat_abs q % 2)
-step_half q x = by-test (lt_z x x) (λ e. absurd (omega (arith, lt_parts (lt_yes {a = x} {b = x} e)))) (λ e. rw e)
+step_half q x = by_test (lt_z x x) (λ e. absurd (omega (arith, lt_parts (lt_yes {a = x} {b = x} e)))) (λ e. rw e)
 
 pub step_most : (q left missing : ℤ) → nat_abs (step_of q left missing) ≤ 1
 step_most q left missing =
-    by-test (lt_z left missing) (λ e. rw e (omega arith))
-    (λ e. by-test (lt_z missing left) (λ f. rw (e, f) (omega arith)) (λ f. rw (e, f) (omega arith)))
+    by_test (lt_z left missing) (λ e. rw e (omega arith))
+    (λ e. by_test (lt_z missing left) (λ f. rw (e, f) (omega arith)) (λ f. rw (e, f) (omega arith)))
 
 odd_next : (q : ℤ) → nat_abs q % 2 ≡ 1 → nat_abs (q +ℤ pos 1) % 2 ≡ 0
 odd_next q h = omega (arith, add_parts q (pos 1), abs_parts q, abs_parts (q +ℤ pos 1))
@@ -38,9 +38,9 @@ odd_next q h = omega (arith, add_parts q (pos 1), abs_parts q, abs_parts (q +ℤ
 -- with c from 0 up left above q times b
 pub r_step : (q c b : ℤ) → pos 0 ⋖ b → pos 0 ⩽ c → c ⋖ b → q +ℤ step_of q c (b -ℤ c) ≡ r (q *ℤ b +ℤ c) b
 r_step q c b h l u =
-    by-test (lt_z c (b -ℤ c))
+    by_test (lt_z c (b -ℤ c))
     (λ e. rw e (same ∙ sym (r_quotient q c b h (nlin (c ∷ b ∷ []) (l & h) (search nstmt depth 20) (omega arith)) (nlin (c ∷ b ∷ []) (lt_yes {a = c} {b = b -ℤ c} e) (search nstmt depth 20) (omega arith)))))
-    (λ e. by-test (lt_z (b -ℤ c) c)
+    (λ e. by_test (lt_z (b -ℤ c) c)
     (λ f. rw (e, f) (sym (next ∙ r_quotient (q +ℤ pos 1) (c -ℤ b) b h (nlin (c ∷ b ∷ []) (lt_yes {a = b -ℤ c} {b = c} f) (search nstmt depth 20) (omega arith)) (nlin (c ∷ b ∷ []) (u & h) (search nstmt depth 20) (omega arith)))))
     (λ f. rw (e, f) (half (lt_no {a = c} {b = b -ℤ c} e) (lt_no {a = b -ℤ c} {b = c} f))))
   where

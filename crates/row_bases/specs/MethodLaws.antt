@@ -22,7 +22,7 @@ use Rattle.model.specs.Questions.{within, uses_incurred, first_no, of_method, q6
 use Rattle.model.specs.QuestionsLaws.{EachYes, numbered, each_yes, within_so, within_yes}
 use Rattle.model.specs.Calls.{zeros}
 use Rattle.model.specs.declared.TriangleSet.{TriangleSet}
-use Rattle.model.specs.Tests.{by-test, same_test}
+use Rattle.model.specs.Tests.{by_test, same_test}
 use Rattle.chain_ladder.specs.DevelopedLaws.{Shared, paid_sound, paid_bounds}
 use Rattle.ladder.specs.LadderLaws.{at_latests}
 use Rattle.ladder.specs.Sums.{latests}
@@ -110,14 +110,14 @@ module _ (m : ℕ) (s : TriangleSet) (method : ℕ) (asked : Asked m s.counts s.
     unfolding base_from row_base U W R R*
     base_is k h =
         let z : 0 < m = omega arith in
-        by-test (eqb method 0) (λ e. let q : method ≡ 0 = eqb-true method 0 e in rw (q, at_ultimates m s.paid m_few k h))
+        by_test (eqb method 0) (λ e. let q : method ≡ 0 = eqb-true method 0 e in rw (q, at_ultimates m s.paid m_few k h))
         (λ e. let n : method ≡ 0 → ⊥ = eqb-false method 0 e in
         rw (at_ultimates m s.paid m_few 0 z, at_ultimates m s.paid m_few k h, i.are n 0 z, i.are n k h, at_latests m s.paid m_few k h))
 
     pub left_is : (k : ℕ) → k < m → left_at m method u c w k ≡ leftover m s method (suc k)
     unfolding left_from leftover U W R R*
     left_is k h =
-        by-test (eqb method 0) (λ e. let q : method ≡ 0 = eqb-true method 0 e in rw q)
+        by_test (eqb method 0) (λ e. let q : method ≡ 0 = eqb-true method 0 e in rw q)
         (λ e. let n : method ≡ 0 → ⊥ = eqb-false method 0 e in rw (at_ultimates m s.paid m_few k h, i.are n k h, at_latests m s.paid m_few k h))
 
     pub bases_are : listed 20 m (base_at m method u c w) (pos 0) ≡ row_bases m s method
@@ -212,7 +212,7 @@ module _ (m : ℕ) (s : TriangleSet) (method : ℕ) where
 module _ (m : ℕ) (s : TriangleSet) (method : ℕ) (asked : Asked m s.counts s.paid s.incurred method) {ok : Bool} {w : List ℤ} (under : Under m s.incurred method ok w) where
   -- method 0, or question 13
   by_method : {P : Type 0} → (method ≡ 0 → P) → ((method ≡ 0 → ⊥) → P) → P
-  by_method f g = by-test (eqb method 0) (λ e. f (eqb-true method 0 e)) (λ e. g (eqb-false method 0 e))
+  by_method f g = by_test (eqb method 0) (λ e. f (eqb-true method 0 e)) (λ e. g (eqb-false method 0 e))
 
   pub answer_13 : ok ≡ false → first_no (of_method m s method) ≡ 13
   answer_13 t =
@@ -268,5 +268,5 @@ module _ (m : ℕ) (s : TriangleSet) (method : ℕ) (asked : Asked m s.counts s.
   pub bases_small : (k : ℕ) → k < m → nat_abs (row_base m s method (suc k)) ≤ 2 * 10 ^ 14
   unfolding row_base U
   bases_small k h =
-      by-test (eqb method 0) (λ e. let q : method ≡ 0 = eqb-true method 0 e in rw q (paid_high m s method asked k h))
+      by_test (eqb method 0) (λ e. let q : method ≡ 0 = eqb-true method 0 e in rw q (paid_high m s method asked k h))
       (λ e. ranged (eqb-false method 0 e) k h)

@@ -14,7 +14,7 @@ use Rattle.model.specs.QuestionsLaws.{EachYes, numbered, each_yes}
 use Rattle.model.specs.Lengths.{size_so, length_so}
 use Rattle.model.specs.SetFile.{file_of}
 use Rattle.model.specs.Calls.{accepted_read, read_refusal, read_answer, write_refusal, write_output}
-use Rattle.model.specs.Tests.{by-test}
+use Rattle.model.specs.Tests.{by_test}
 use Rattle.model.specs.declared.TriangleSet.{TriangleSet}
 use Rattle.model.specs.declared.ReadAnswer.{ReadAnswer}
 use Rattle.triangles.specs.Order.{SameRecords, set_order}
@@ -54,16 +54,16 @@ module _ (m : ℕ) (f : List ℕ) (accepted : read_refusal m f ≡ 0) where
       again t = triangle_again m (value_of f t) (size_so m (writable m f accepted).size).1
 
       last : cond (has_incurred m f) (triangle m (cell (triangle m (value_of f 2)))) (replicate 400 (pos 0)) ≡ triangle m (value_of f 2)
-      last = by-test (has_incurred m f) (λ e. rw e (again 2)) (λ e. rw e (sym (triangle_zeros m (value_of f 2) (none e))))
+      last = by_test (has_incurred m f) (λ e. rw e (again 2)) (λ e. rw e (sym (triangle_zeros m (value_of f 2) (none e))))
 
   -- the writer takes it, and writes its file
-  pub written-again :
+  pub written_again :
       (before : List ℕ) → length f ≤ length before
       → let s = set_of m f in
       (write_refusal m s.line s.has_incurred s.counts s.paid s.incurred (length before) ≡ 0)
       × (write_output m s.line s.has_incurred s.counts s.paid s.incurred before ≡ file_of m s ++ drop (length f) before)
   unfolding write_output write_refusal first_no q7_writer
-  written-again before h =
+  written_again before h =
       let w = writable m f accepted in
       let l = read_length in
       let y = le-leb (set_length m (set_of m f).has_incurred) (length before) (omega arith) in
@@ -77,6 +77,6 @@ module _ (m : ℕ) (f : List ℕ) (accepted : read_refusal m f ≡ 0) where
       ap (λ (s : TriangleSet). read_answer m (file_of m s)) g ∙ read_back m _ _ _ _ w.size _ w.line w.values ∙ ap accepted_read (sym g)
 
 -- two such files that are written again as one file hold the same set
-pub same-written :
+pub same_written :
     (m : ℕ) (f g : List ℕ) → read_refusal m f ≡ 0 → read_refusal m g ≡ 0 → file_of m (set_of m f) ≡ file_of m (set_of m g) → set_of m f ≡ set_of m g
-same-written m f g a b q = ap (λ (x : ReadAnswer). x.set) (sym (read_again m f a) ∙ ap (read_answer m) q ∙ read_again m g b)
+same_written m f g a b q = ap (λ (x : ReadAnswer). x.set) (sym (read_again m f a) ∙ ap (read_answer m) q ∙ read_again m g b)

@@ -19,7 +19,7 @@ use Rattle.model.specs.PaidReserve.{NearReserves}
 use Rattle.paid_reserve.specs.Demand3.{own_solve, demand_3}
 use Rattle.model.specs.Questions.{Question, q6, q12, q20, first_no, of_shares, of_delays, of_given_delays, of_method, of_forecast}
 use Rattle.model.specs.QuestionsLaws.{numbered, stage_no, stage_yes, stages_so}
-use Rattle.model.specs.Tests.{by-test}
+use Rattle.model.specs.Tests.{by_test}
 use Rattle.model.specs.declared.TriangleSet.{TriangleSet}
 use Rattle.chain_ladder.specs.DevelopedLaws.{Shared, shared_set, counts_rows, counts_sound}
 use Rattle.ladder.specs.Sums.{latests}
@@ -134,7 +134,7 @@ module _ {m : ℕ} {set : List ℤ} {method : ℕ} {cl cg dl dg p : List ℤ} (g
 in_places : (m : ℕ) (p made : List ℤ) → q12 m p ≡ true → ((l : ℕ) → l < m → l < 20 → at made l ≡ at p l) → ((l : ℕ) → m ≤ l → l < 20 → at made l ≡ pos 0) → Delays made
 unfolding q12
 in_places m p made in_range_lem here past l h =
-    by-test (ltb l m)
+    by_test (ltb l m)
     (λ e. rw (here l (ltb-true l m e) h) (held_small (at p l) (every_at (λ l. held (at p l)) m l in_range_lem (ltb-true l m e))))
     (λ e. rw (past l (ltb-false l m e) h) (omega arith))
 
@@ -177,7 +177,7 @@ module _ (m : ℕ) (s : TriangleSet) (method : ℕ) where
 
     asked_numbered : numbered asked ≡ true
     unfolding of_shares asks_delays of_delays of_given_delays numbered
-    asked_numbered = by-test given (λ e. rw e) (λ e. rw e)
+    asked_numbered = by_test given (λ e. rw e) (λ e. rw e)
 
     pub by_either : (refusal_from m s.counts s.paid given lent ≡ 0 → ⊥) → first_no (of_either m s given lent method) ≡ refusal_from m s.counts s.paid given lent
     unfolding of_either refusal_from of_shares

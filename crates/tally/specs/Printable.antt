@@ -6,7 +6,7 @@ use Rattle.std.proofs.Common.{arith, eqb-true, ne_eqb}
 use Rattle.std.proofs.Math.IntN.{+ℤ_idl, +ℤ_idr}
 use Rattle.integers.specs.Order.{nat_abs-+ℤ}
 use Rattle.integers.specs.Sums.{sum, sum_cong, sum_nothing, sum_nat_abs, sum_swap}
-use Rattle.model.specs.Tests.{by-test}
+use Rattle.model.specs.Tests.{by_test}
 use Rattle.model.specs.Lists.{at}
 use Rattle.model.specs.ListsLaws.{get_d_tabulate}
 use Rattle.model.specs.Calendar.{calendar_year, tally_of}
@@ -33,7 +33,7 @@ once : (n y : ℕ) (x : ℤ) → nat_abs (counted n y x) ≤ nat_abs x
 unfolding sum
 once zero y x = omega arith
 once (suc n) y x =
-    by-test (eqb y (suc n))
+    by_test (eqb y (suc n))
     (λ e.
     let q = eqb-true y (suc n) e in
     let none : counted n y x ≡ pos 0 = sum_nothing n (λ k l. rw (ne_eqb y (suc k) (λ p. omega arith))) in

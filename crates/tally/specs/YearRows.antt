@@ -9,7 +9,7 @@ use Rattle.std.proofs.Math.Arith.{digits_div, digits_mod, digits_lt}
 use Rattle.std.proofs.Math.IntN.{ℤ, +ℤ_idl}
 use Rattle.std.proofs.Math.ListN.{get_or-eq_default}
 use Rattle.integers.specs.Sums.{sum, sum_cong, sum_nothing, sum_split, sum_zero, sum_suc, sum_ends, sum_nat_abs}
-use Rattle.model.specs.Tests.{by-test}
+use Rattle.model.specs.Tests.{by_test}
 use Rattle.model.specs.Lists.{tabulate, listed, at}
 use Rattle.model.specs.ListsLaws.{length_tabulate, get_d_tabulate, tabulate_ext, get_or_listed_past, listed_none, listed_next}
 use Rattle.model.specs.Cells.{size}
@@ -130,7 +130,7 @@ module _ (m : ℕ) (out : List ℤ) (k kind : ℕ) (h : k < 2 * m - 2) where
 -- one cell in each row at most, each at most 2 × 10^15
 year_most : (m : ℕ) (out : List ℤ) (k kind : ℕ) → m ≤ 20 → kind ≤ 1 → Small m out → nat_abs (yearly m kind out k) ≤ 4 * 10 ^ 16
 year_most m out k kind few l small =
-    by-test (ltb k (2 * m - 2))
+    by_test (ltb k (2 * m - 2))
     (λ e.
     let h = ltb-true k (2 * m - 2) e in
     let a = k + 2 - m in
@@ -148,7 +148,7 @@ Modest xs = (k : ℕ) → nat_abs (at xs k) ≤ 4 * 10 ^ 16
 
 years_modest : (f : ℕ → ℤ) → ((k : ℕ) → nat_abs (f k) ≤ 4 * 10 ^ 16) → Modest (tabulate 38 f)
 years_modest f h k =
-    by-test (ltb k 38) (λ e. rw (get_d_tabulate 38 f k (pos 0) (ltb-true k 38 e)) (h k))
+    by_test (ltb k 38) (λ e. rw (get_d_tabulate 38 f k (pos 0) (ltb-true k 38 e)) (h k))
     (λ e. rw (get_or-eq_default (tabulate 38 f) (pos 0) (let u : length (tabulate 38 f) ≤ k = omega (arith, length_tabulate 38 f, ltb-false k 38 e) in u)) (omega arith))
 
 pub tally_modest : (m : ℕ) (out : List ℤ) → m ≤ 20 → Small m out → Modest (tally_of m out).rbns × Modest (tally_of m out).ibnr
@@ -161,7 +161,7 @@ tally_modest m out few small =
 -- a list whose places from m on would be d too
 filled : {A : Type 0} (n m : ℕ) (f : ℕ → A) (d : A) → ((k : ℕ) → m ≤ k → f k ≡ d) → listed n m f d ≡ tabulate n f
 unfolding listed
-filled n m f d h = tabulate_ext n (λ k. cond (ltb k m) (f k) d) f (λ k l. by-test (ltb k m) (λ e. rw e) (λ e. rw e (sym (h k (ltb-false k m e)))))
+filled n m f d h = tabulate_ext n (λ k. cond (ltb k m) (f k) d) f (λ k l. by_test (ltb k m) (λ e. rw e) (λ e. rw e (sym (h k (ltb-false k m e)))))
 
 -- calendar years 1 to n of the tally of an output
 abbrev pub years_to : ℕ → List ℤ → ℕ → Tally

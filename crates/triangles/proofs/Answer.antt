@@ -12,7 +12,7 @@ use Rattle.model.specs.Questions.{q1, q2, q3, q4, q5, kinds, first_no, of_record
 use Rattle.model.specs.Calls.{read_refusal}
 use Rattle.model.specs.Lengths.{size_so, length_yes, length_so}
 use Rattle.model.specs.Lent.{ReadInto}
-use Rattle.model.specs.Tests.{by-test}
+use Rattle.model.specs.Tests.{by_test}
 use Rattle.records.specs.OneRecord.{well_formed, q3_formed, ranged}
 use Rattle.records.specs.Places.{cells_of}
 use Rattle.triangles.specs.Keys.{fresh, RecordsRead}
@@ -34,7 +34,7 @@ module _ (m : ℕ) (f : List ℕ) (set : List ℤ) where
   module _ (a : q1 m ≡ true) where
     pub no_2 : (length f ≡ set_length m (has_incurred m f) → ⊥) → ReadInto m f 2 set
     unfolding read_refusal first_no of_file
-    no_2 o = no 1 (by-test (q2 m f) (λ y. absurd (o (length_so m f y))) (λ y. rw (a, y)))
+    no_2 o = no 1 (by_test (q2 m f) (λ y. absurd (o (length_so m f y))) (λ y. rw (a, y)))
 
     module _ (n : ℕ) (long : length f ≡ 16 * n) (sized : 16 * n ≡ set_length m (has_incurred m f)) where
       abbrev u : ℕ
@@ -56,14 +56,14 @@ module _ (m : ℕ) (f : List ℕ) (set : List ℤ) where
       unfolding read_refusal first_no of_file of_records q5 ranged
       questions =
           rw (a, (length_yes m f (size_so m a).0 (has_incurred m f) (long ∙ sized)).0, ← third, ← all)
-          (by-test (every n (well_formed m u (line_of f) f)) (λ y. rw (y, once y)) (λ y. rw y))
+          (by_test (every n (well_formed m u (line_of f) f)) (λ y. rw (y, once y)) (λ y. rw y))
 
       pub read_so : (r : ℕ) → RecordsRead m u (line_of f) f n r set → ReadInto m f r set
       unfolding first_no set_of
       read_so r is =
           record {
             result = is.result ∙ sym questions;
-            holds = λ z. by-test (every n (well_formed m u (line_of f) f))
+            holds = λ z. by_test (every n (well_formed m u (line_of f) f))
                 (λ y. let triangle = triangle_key m u (line_of f) f n (size_so m a).1 y in
                 rw (triangle 0 set (omega arith) all (is.values z), triangle 1 set (omega arith) all (is.values z), triangle 2 set (omega arith) all (is.values z)))
                 (λ y. let three : r ≡ 3 = is.result ∙ rw y in absurd (omega arith));

@@ -15,7 +15,7 @@ use Rattle.integers.specs.Sums.{sum}
 use Rattle.model.specs.Lists.{at, every, total, count}
 use Rattle.model.specs.ListsLaws.{and_left, and_right, every_at, every_all}
 use Rattle.model.specs.Records.{value_at}
-use Rattle.model.specs.Tests.{by-test}
+use Rattle.model.specs.Tests.{by_test}
 use Rattle.triangles.specs.Stores.{get_d_set}
 use Rattle.triangles.specs.Keys.{key_at, key_count, key_sum, fresh}
 
@@ -51,7 +51,7 @@ module _ (f : List ℕ) where
   unfolding key_count count total key_sum sum
   sum_zero zero q e = refl
   sum_zero (suc n) q e =
-      by-test (eqb (key_at f n) q) (λ y. absurd (positive _ (rw y at e))) (λ y. rw (y, sum_zero n q (less _ (rw y at e))))
+      by_test (eqb (key_at f n) q) (λ y. absurd (positive _ (rw y at e))) (λ y. rw (y, sum_zero n q (less _ (rw y at e))))
     where
       positive : (c : ℕ) → c + 1 ≡ 0 → ⊥
       positive c h = omega arith
@@ -65,7 +65,7 @@ module _ (f : List ℕ) where
   once_so zero h q = omega (arith, count_none q)
   once_so (suc n) h q =
       rw (← add-one n, count_more n q)
-      (by-test (eqb (key_at f n) q)
+      (by_test (eqb (key_at f n) q)
       (λ y. let z = eqb-true _ 0 (and_right (every n (fresh f)) _ h) in
       let e : key_count f n q ≡ 0 = subst (λ (i : ℕ). key_count f n i ≡ 0) (eqb-true (key_at f n) q y) z in rw y (omega arith))
       (λ y. rw y (omega (arith, once_so n (and_left (every n (fresh f)) _ h) q))))
@@ -87,7 +87,7 @@ module _ (f : List ℕ) where
       one : (r : ℕ) → r < 1200 → eqb (get_or (set seen q 1) r 0) 0 ≡ eqb (key_count f (k + 1) r) 0
       one r h =
           rw (get_d_set seen q r 1 0 (omega (arith, is.0)), count_more k r, ← e)
-          (by-test (eqb q r) (λ y. rw (y, ne_eqb (key_count f k r + 1) 0 (λ z. omega arith))) (λ y. rw (y, add-zero) (is.1 r h)))
+          (by_test (eqb q r) (λ y. rw (y, ne_eqb (key_count f k r + 1) 0 (λ z. omega arith))) (λ y. rw (y, add-zero) (is.1 r h)))
 
   -- ---- the cells: where no key stood there twice, each is the sum of its key's values
   abbrev pub Cells : ℕ → List ℤ → Type 0
@@ -105,6 +105,6 @@ module _ (f : List ℕ) where
           let before = every_all _ k (λ i b. every_at (fresh f) (k + 1) i o (omega arith)) in
           let new : key_count f k q ≡ 0 = rw e (eqb-true _ 0 (every_at (fresh f) (k + 1) k o (omega arith))) in
           rw (get_d_set out q r v (pos 0) (omega (arith, is.0)), sum_more k r, ← e, ← ev)
-          (by-test (eqb q r)
+          (by_test (eqb q r)
           (λ y. rw (y, subst (λ (i : ℕ). key_sum f k i ≡ pos 0) (eqb-true q r y) (sum_zero k q new)) (sym (+ℤ_idl v)))
           (λ y. rw y (is.1 before r h ∙ sym (+ℤ_idr (key_sum f k r)))))

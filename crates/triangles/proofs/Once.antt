@@ -17,7 +17,7 @@ use Rattle.model.specs.Records.{inside, kind_at, year_at, delay_at, records, is_
 use Rattle.model.specs.RecordsLaws.{inside_yes, inside_so}
 use Rattle.model.specs.Questions.{each_cell}
 use Rattle.model.specs.Lent.{triangle_in}
-use Rattle.model.specs.Tests.{by-test, same_test}
+use Rattle.model.specs.Tests.{by_test, same_test}
 use Rattle.records.specs.Folds.{totals, fold_unit, fold_split, fold_pick, joined, total_fold}
 use Rattle.records.specs.OneRecord.{well_formed}
 use Rattle.records.specs.Places.{inside_at, place_passes, places_pass}
@@ -47,9 +47,9 @@ parts_so m u a i j e =
     let y = inside_so m i j (and_right (ltb a u) (inside m i j) e) in
     (ltb-true a u (and_left (ltb a u) (inside m i j) e), y.0, y.1)
 
-key-parts :
+key_parts :
     (a i j t p : ℕ) → 1 ≤ i → i + j ≤ 20 → p < 400 → (eqb a t && eqb i (p / 20 + 1) && eqb j (p % 20)) ≡ eqb (400 * a + (20 * (i - 1) + j)) (400 * t + p)
-key-parts a i j t p h l b =
+key_parts a i j t p h l b =
     same_test (eqb a t && eqb i (p / 20 + 1) && eqb j (p % 20)) (eqb (400 * a + (20 * (i - 1) + j)) (400 * t + p))
     (λ e. let ai = and_left (eqb a t && eqb i (p / 20 + 1)) (eqb j (p % 20)) e in
     let x = eqb-true a t (and_left (eqb a t) (eqb i (p / 20 + 1)) ai) in
@@ -72,7 +72,7 @@ module _ (m u v : ℕ) (f : List ℕ) (n : ℕ) (small : m ≤ 20) (formed : eve
   -- a record is that of kind t and place p where its key is 400 t + p
   by_key : (t p k : ℕ) → p < 400 → k < n → is_of f t (p / 20 + 1) (p % 20) k ≡ eqb (key_at f k) (400 * t + p)
   unfolding key_at is_of
-  by_key t p k h l = let w = so k l in key-parts (kind_at f k) (year_at f k) (delay_at f k) t p w.1 (omega arith) h
+  by_key t p k h l = let w = so k l in key_parts (kind_at f k) (year_at f k) (delay_at f k) t p w.1 (omega arith) h
 
   copies_key : (t p : ℕ) → p < 400 → n ≡ records f → copies f t (p / 20 + 1) (p % 20) ≡ key_count f n (400 * t + p)
   unfolding copies key_count count
@@ -102,7 +102,7 @@ module _ (m u v : ℕ) (f : List ℕ) (n : ℕ) (small : m ≤ 20) (formed : eve
   unfolding triangle triangle_in
   triangle_key t set k e h =
       tabulate_ext 400 _ _
-      (λ p l. h (400 * t + p) (omega arith) ∙ by-test (inside_at m p) (λ i. rw i (sym (value_key t p l e))) (λ o. rw o (sum_outside t p l o)))
+      (λ p l. h (400 * t + p) (omega arith) ∙ by_test (inside_at m p) (λ i. rw i (sym (value_key t p l e))) (λ o. rw o (sum_outside t p l o)))
 
   -- ---- each record has one key
 
@@ -125,7 +125,7 @@ module _ (m u v : ℕ) (f : List ℕ) (n : ℕ) (small : m ≤ 20) (formed : eve
     at_most : every n (fresh f) ≡ true → (q : ℕ) → q < 400 * u → key_count f n q ≤ cell_key m q
     at_most d q l =
         let e : q ≡ 400 * (q / 400) + q % 400 = omega arith in
-        by-test (inside_at m (q % 400)) (λ i. rw i (once_so f n d q))
+        by_test (inside_at m (q % 400)) (λ i. rw i (once_so f n d q))
         (λ o. rw o (omega (arith, ap (key_count f n) e ∙ count_outside (q / 400) (q % 400) (omega arith) o)))
 
     once : every n (fresh f) ≡ true → each_once ≡ true

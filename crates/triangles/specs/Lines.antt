@@ -8,7 +8,7 @@ use Rattle.model.specs.Records.{has_incurred, set_of}
 use Rattle.model.specs.Questions.{Question}
 use Rattle.model.specs.Calls.{if_accepted, call_refusal, read_refusal}
 use Rattle.model.specs.CallsLaws.{by_file, after_file}
-use Rattle.model.specs.Tests.{by-test}
+use Rattle.model.specs.Tests.{by_test}
 use Rattle.model.specs.declared.TriangleSet.{TriangleSet}
 use Rattle.triangles.specs.Order.{SameRecords, read_refusal_order, set_order}
 
@@ -51,7 +51,7 @@ module _ {m : ℕ} {f g : List ℕ} (alike : SameButLine m f g) where
 
     pub call_alike : asked f ≡ asked g
     call_alike =
-        by-test (eqb (read_refusal m f) 0)
+        by_test (eqb (read_refusal m f) 0)
         (λ t. let z = eqb-true _ 0 t in
         after_file m f _ _ z ∙ rw (flags z, questions z) (sym (after_file m g _ _ (sym alike.refusals ∙ z))))
         (λ t. let o = eqb-false _ 0 t in
@@ -60,4 +60,4 @@ module _ {m : ℕ} {f g : List ℕ} (alike : SameButLine m f g) where
 -- ---- an answer made of the set, or of the refusal's number, under whatever view of it
 pub answered_alike : (m : ℕ) (f g : List ℕ) {A : Type 0} (view : A → A) (accepted : TriangleSet → A) (refused : ℕ → A) {n k : ℕ}
     → n ≡ k → (n ≡ 0 → view (accepted (set_of m f)) ≡ view (accepted (set_of m g))) → view (if_accepted n (accepted (set_of m f)) (refused n)) ≡ view (if_accepted k (accepted (set_of m g)) (refused k))
-answered_alike m f g view accepted refused {n} e h = rw (← e) (by-test (eqb n 0) (λ t. rw t (h (eqb-true n 0 t))) (λ t. rw t))
+answered_alike m f g view accepted refused {n} e h = rw (← e) (by_test (eqb n 0) (λ t. rw t (h (eqb-true n 0 t))) (λ t. rw t))

@@ -16,7 +16,7 @@ use Rattle.model.specs.Questions.{q1, q2, q3, q4, q5, q5_writer, kinds, each_cel
 use Rattle.model.specs.QuestionsLaws.{EachYes, numbered, each_yes, each_cell_at, each_cell_all}
 use Rattle.model.specs.Calls.{read_refusal}
 use Rattle.model.specs.Lengths.{size_so, length_so, set_least}
-use Rattle.model.specs.Tests.{by-test}
+use Rattle.model.specs.Tests.{by_test}
 use Rattle.model.specs.declared.TriangleSet.{TriangleSet}
 use Rattle.records.specs.OneRecord.{q3_formed, line_so}
 
@@ -30,7 +30,7 @@ module _ (p : ℕ → Bool) (v : ℕ → ℤ) where
   unfolding count total sum picked
   none_picked zero e = refl
   none_picked (suc n) e =
-      by-test (p n) (λ q. let l = rw q at e in absurd (omega arith))
+      by_test (p n) (λ q. let l = rw q at e in absurd (omega arith))
       (λ q. let l = rw q at e in rw (q, +ℤ_idr (sum n picked)) (none_picked n (omega arith)))
 
   -- p says yes to one
@@ -38,7 +38,7 @@ module _ (p : ℕ → Bool) (v : ℕ → ℤ) where
   unfolding count total sum picked
   one_picked Q zero h e = absurd (omega arith)
   one_picked Q (suc n) h e =
-      by-test (p n) (λ q. let l = rw q at e in rw (q, none_picked n (omega arith), +ℤ_idl (v n)) (h n (omega arith) q))
+      by_test (p n) (λ q. let l = rw q at e in rw (q, none_picked n (omega arith), +ℤ_idl (v n)) (h n (omega arith) q))
       (λ q. let l = rw q at e in rw (q, +ℤ_idr (sum n picked)) (one_picked Q n (λ k u. h k (omega arith)) (omega arith)))
 
 -- ---- the cells of a file
@@ -56,10 +56,10 @@ module _ (m : ℕ) (f : List ℕ) (few : m ≤ 20) (once : q4 m f ≡ true) (val
 
   pub set_in : q5_writer m (has_incurred m f) (triangle m (value_of f 0)) (triangle m (value_of f 1)) (triangle m (value_of f 2)) ≡ true
   unfolding q5_writer kinds
-  set_in = rw (cells_in 0 (some_kinds 0 (omega arith)), cells_in 1 (some_kinds 1 (omega arith))) (by-test (has_incurred m f) (λ e. rw e (cells_in 2 (rw e (omega arith)))) (λ e. rw e))
+  set_in = rw (cells_in 0 (some_kinds 0 (omega arith)), cells_in 1 (some_kinds 1 (omega arith))) (by_test (has_incurred m f) (λ e. rw e (cells_in 2 (rw e (omega arith)))) (λ e. rw e))
     where
       some_kinds : (t : ℕ) → t < 2 → t < cond (has_incurred m f) 3 2
-      some_kinds t h = by-test (has_incurred m f) (λ e. rw e (omega arith)) (λ e. rw e h)
+      some_kinds t h = by_test (has_incurred m f) (λ e. rw e (omega arith)) (λ e. rw e h)
 
 -- a set that passes the writer's questions 1, 3 and 5
 pub record Writable (m : ℕ) (s : TriangleSet) : Type 0 where

@@ -16,17 +16,17 @@ module _ (m : ℕ) (few : m ≤ 20) (v : ℕ) (c d e : List ℤ) where
     abbrev given : TriangleSet
     given = given_set m v there c d e
 
-    year-bytes :
+    year_bytes_lem :
         (t k : ℕ) → t < kinds there
         → chained (m - k) (λ j. record_of t (suc k) j v (word (cell (of_kind given t) (suc k) j))) ≡ year_bytes v t (lent_kind c d e t) (suc k) (m - k)
     unfolding year_bytes
-    year-bytes t k h =
+    year_bytes_lem t k h =
         chained_ext (m - k) (λ j. record_of t (suc k) j v (word (cell (of_kind given t) (suc k) j))) (λ j. cell_bytes v t (lent_kind c d e t) (suc k) j)
         (λ j b. ap (λ (z : ℤ). record_of t (suc k) j v (word z)) (given_cell m few v c d e there t (suc k) j h (omega arith) (omega arith)))
 
     by_kind : file_of m given ≡ chained (kinds there) (λ t. kind_bytes m v t (lent_kind c d e t))
     unfolding file_of kind_bytes given_set
-    by_kind = chained_ext (kinds there) _ _ (λ t h. chained_ext m _ _ (λ k l. year-bytes t k h))
+    by_kind = chained_ext (kinds there) _ _ (λ t h. chained_ext m _ _ (λ k l. year_bytes_lem t k h))
 
     pub file_bytes : file_of m given ≡ set_bytes m v there c d e
     unfolding set_bytes

@@ -17,7 +17,7 @@ use Rattle.model.specs.RecordsLaws.{inside_yes, triangle_ext, triangle_zeros}
 use Rattle.model.specs.Questions.{q5, each_cell}
 use Rattle.model.specs.QuestionsLaws.{each_cell_all}
 use Rattle.model.specs.SetFile.{word, bytes, record_of}
-use Rattle.model.specs.Tests.{by-test}
+use Rattle.model.specs.Tests.{by_test}
 use Rattle.records.specs.Folds.{Monoid, alls, totals, sums, fold, fold_ext, fold_unit, fold_split, fold_pick, joined, every_fold, total_fold, sum_fold}
 use Rattle.records.specs.OneRecord.{record_at, Local, well_formed, well_formed_local, ranged, ranged_local, of_cell, of_cell_local, value_local, over}
 use Rattle.triangles.specs.Ranges.{range_fits}
@@ -162,7 +162,7 @@ module _ (m v : ℕ) (s : ℕ → List ℤ) where
       other : (k y d : ℕ) → (k ≡ t → y ≡ i → d ≡ j → ⊥) → piece M G k y d ≡ M.unit
       unfolding of_cell is_of record_of
       other k y d n =
-          by-test (eqb k t && eqb y i && eqb d j)
+          by_test (eqb k t && eqb y i && eqb d j)
           (λ e. let ki = and_left (eqb k t && eqb y i) (eqb d j) e in
           absurd (n (eqb-true k t (and_left (eqb k t) (eqb y i) ki)) (eqb-true y i (and_right (eqb k t) (eqb y i) ki)) (eqb-true d j (and_right (eqb k t && eqb y i) (eqb d j) e))))
           (λ e. rw e)

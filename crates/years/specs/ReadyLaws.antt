@@ -9,7 +9,7 @@ use Rattle.integers.specs.Order.{nat_abs_mono}
 use Rattle.model.specs.Lists.{at, listed}
 use Rattle.model.specs.ListsLaws.{get_or_listed}
 use Rattle.model.specs.Rounding.{S}
-use Rattle.model.specs.Tests.{by-test}
+use Rattle.model.specs.Tests.{by_test}
 use Rattle.model.specs.Shares as Shares
 use Rattle.model.specs.Shares.{g_list}
 use Rattle.ladder.specs.SharesLaws.{g_range}
@@ -27,7 +27,7 @@ module _ (m : ℕ) (t : List ℤ) (basis : ℕ) (g latest : List ℤ) (i : ℕ) 
 
   pub same_weights : (s shares : List ℤ) → (basis ≡ 1 → s ≡ shares) → year_weights m t basis s g latest i ≡ year_weights m t basis shares g latest i
   unfolding year_weights weights_from
-  same_weights s shares e = by-test (eqb basis 1) (λ q. rw (e (eqb-true basis 1 q))) (λ q. rw q)
+  same_weights s shares e = by_test (eqb basis 1) (λ q. rw (e (eqb-true basis 1 q))) (λ q. rw q)
 
 module _ {m : ℕ} {t shares g latest v p : List ℤ} (z : Ready m t shares g latest v p) where
   abbrev some : 1 ≤ m

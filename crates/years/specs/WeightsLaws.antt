@@ -17,7 +17,7 @@ use Rattle.model.specs.Rounding.{S}
 use Rattle.model.specs.Shares as Shares
 use Rattle.model.specs.Shares.{C, latest, g, b_list}
 use Rattle.model.specs.Cells.{s_list}
-use Rattle.model.specs.Tests.{by-test}
+use Rattle.model.specs.Tests.{by_test}
 use Rattle.model.specs.declared.TriangleSet.{TriangleSet}
 use Rattle.rounding.specs.RoundingLaws.{r_nonneg, r_upper}
 use Rattle.ladder.specs.SharesLaws.{Sound, share_range, shares_sum, g_range}
@@ -27,7 +27,7 @@ use Rattle.cells.specs.Weights.{Weights, actual_weight, weights_from}
 module _ (n : ℕ) (f : ℕ → ℤ) (few : n ≤ 20) where
   listed_nonneg : ((k : ℕ) → k < n → pos 0 ⩽ f k) → (k : ℕ) → k < 20 → pos 0 ⩽ at (listed 20 n f (pos 0)) k
   listed_nonneg h k l =
-      by-test (ltb k n) (λ e. let u : k < n = ltb-true k n e in rw (get_or_listed 20 n f (pos 0) k (pos 0) l u) (h k u))
+      by_test (ltb k n) (λ e. let u : k < n = ltb-true k n e in rw (get_or_listed 20 n f (pos 0) k (pos 0) l u) (h k u))
       (λ e. let u : n ≤ k = ltb-false k n e in rw (get_or_listed_past 20 n f (pos 0) k (pos 0) l u) (nonneg 0))
 
   listed_sum : sum 20 (at (listed 20 n f (pos 0))) ≡ sum n f

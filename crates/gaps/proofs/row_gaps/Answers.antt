@@ -3,7 +3,7 @@ use mathlib.Core.Path.{◌≡◌, sym, ◌∙◌, ap, ap₂}
 use mathlib.Core.Logic.{◌⊎◌, ⊎_elim, inl, inr}
 use borrow.Author.Tests.{leb-true, leb-false}
 use lib.Dec.{leb}
-use Rattle.model.specs.Tests.{by-test}
+use Rattle.model.specs.Tests.{by_test}
 use mathlib.Core.List.{List}
 use Prim.Native.Nat.{ℕ, ◌+◌, ◌-◌, ◌*◌, ◌^◌, ◌≤◌, ◌<◌, min}
 use native.Mathlib.Omega.{arith}
@@ -27,7 +27,7 @@ use Rattle.gaps.proofs.row_gaps.Goals as goal
 use Rattle.gaps.proofs.row_gaps.Goals.{After-d-1, After-struct_told-in-loop-j-1, In-loop-j, Start}
 
 which : (n m i j : ℕ) → min n (m + 1 - i) ≤ j → (n ≤ j) ⊎ (m < i + j)
-which n m i j h = by-test (leb n j) (λ e. inl (leb-true n j e)) (λ e. let l = leb-false n j e in inr (omega arith))
+which n m i j h = by_test (leb n j) (λ e. inl (leb-true n j e)) (λ e. let l = leb-false n j e in inr (omega arith))
 
 module _ (a : Start) where
   abbrev m : ℕ

@@ -10,13 +10,13 @@ use lib.ListN.{length}
 use Rattle.model.specs.Records.{records}
 use Rattle.model.specs.Questions.{first_no}
 use Rattle.model.specs.Journal.{q16_length}
-use Rattle.model.specs.Tests.{by-test}
+use Rattle.model.specs.Tests.{by_test}
 use Rattle.journal.proofs.framed.Goals as goal
 
 long : (f : List ℕ) → 65536 < length f → q16_length f ≡ false
 unfolding q16_length
 long f h =
-    by-test (eqb (length f) (16 * records f))
+    by_test (eqb (length f) (16 * records f))
     (λ e. let z : length f ≡ 16 * records f = eqb-true (length f) (16 * records f) e in rw (e, lt-leb (records f) 4096 (omega arith))) (λ e. rw e)
 
 uneven : (f : List ℕ) → (length f % 16 ≡ 0 → ⊥) → q16_length f ≡ false

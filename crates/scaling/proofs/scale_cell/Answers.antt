@@ -16,7 +16,7 @@ use mir.Facts.{to_z-of_z, to_z_pos}
 use Rattle.integers.specs.Parts.{◌⋖◌, ints}
 use Rattle.integers.specs.Solver.{ring, form}
 use Rattle.model.specs.Rounding.{S, r}
-use Rattle.model.specs.Tests.{by-test}
+use Rattle.model.specs.Tests.{by_test}
 use Rattle.rounding.specs.RoundingLaws.{r_unique, r_exact}
 use Rattle.rounding.specs.Signed.{turned, r_turned, signed-*}
 use Rattle.rounding.specs.Words.{abs_read, equal_words}
@@ -45,7 +45,7 @@ nothing v =
 nearer : (n q d k : ℕ) → q * base + d ≡ n / base → d < base → (d ≡ 500000000 → ⊥) → (d < 500000000 → k ≡ 0) × (500000000 ≤ d → k ≡ 1) → r (pos n) (S *ℤ S) ≡ pos (q + k)
 nearer n q d k e u other h =
     rw square_is
-    (by-test (ltb d 500000000)
+    (by_test (ltb d 500000000)
     (λ t. let b = ltb-true d 500000000 t in r_unique (pos n) (pos square) (pos (q + k)) (omega (arith, ints)) (omega (arith, ints, h.0 b)) (omega (arith, ints, h.0 b)))
     (λ t. let b = ltb-false d 500000000 t in r_unique (pos n) (pos square) (pos (q + k)) (omega (arith, ints)) (omega (arith, ints, h.1 b, other)) (omega (arith, ints, h.1 b, other))))
 

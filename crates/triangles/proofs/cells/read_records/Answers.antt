@@ -14,7 +14,7 @@ use Rattle.model.specs.Lists.{every}
 use Rattle.model.specs.ListsLaws.{and_left, every_none, every_more, every_next, every_no}
 use Rattle.model.specs.Questions.{first_no}
 use Rattle.model.specs.Records.{in_range}
-use Rattle.model.specs.Tests.{by-test, refused, passed}
+use Rattle.model.specs.Tests.{by_test, refused, passed}
 use Rattle.records.specs.OneRecord.{well_formed, ranged}
 use Rattle.triangles.specs.Keys.{key_at, fresh, RecordsRead}
 use Rattle.records.specs.Bytes.{head_formed}
@@ -44,7 +44,7 @@ module _ (m u v : ℕ) (f : List ℕ) (n : ℕ) (set : List ℤ) where
   formed r e is cells =
       record {
         result = rw e is;
-        values = λ z. by-test (every n (fresh f)) cells.1 (λ y. let four : r ≡ 4 = is ∙ rw y in absurd (omega arith));
+        values = λ z. by_test (every n (fresh f)) cells.1 (λ y. let four : r ≡ 4 = is ∙ rw y in absurd (omega arith));
       }
 
 -- ---- a record that is well formed

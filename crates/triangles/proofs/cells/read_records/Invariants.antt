@@ -12,7 +12,7 @@ use Rattle.model.specs.Lists.{every}
 use Rattle.model.specs.ListsLaws.{and_left, every_none, every_more, every_next, every_no}
 use Rattle.model.specs.Questions.{first_no}
 use Rattle.model.specs.Records.{in_range}
-use Rattle.model.specs.Tests.{by-test, refused, passed}
+use Rattle.model.specs.Tests.{by_test, refused, passed}
 use Rattle.records.specs.OneRecord.{well_formed, ranged}
 use Rattle.triangles.specs.Keys.{key_at, fresh, RecordsRead}
 use Rattle.records.specs.Bytes.{head_formed}

@@ -30,7 +30,7 @@ year_algebra s z v x b a n p q k h =
 
 -- the three errors put together: z the year's sum, w its ultimate, c its latest sum, t / u the
 -- unrounded share, g the rounded one
-bound_algebra : (s g t u c w z i : ℤ) (n : ℕ) → i ≡ pos n +ℤ pos 1 → pos n ⩽ s
+pub bound_algebra : (s g t u c w z i : ℤ) (n : ℕ) → i ≡ pos n +ℤ pos 1 → pos n ⩽ s
     → pos 0 ⋖ s → pos 0 ⋖ g → g ⩽ s → pos 0 ⋖ t → t ⩽ s *ℤ u → pos 0 ⩽ c
     → Half (s *ℤ z -ℤ w *ℤ (s -ℤ g)) (pos n *ℤ (pos 2 *ℤ s +ℤ w))
     → Half (g *ℤ w -ℤ c *ℤ s) g
@@ -68,7 +68,7 @@ bound_algebra s g t u c w z i n one small s_pos g_pos g_s t_pos t_s c_low hz hw 
         (search nstmt depth 20) (omega arith)
 
 -- the same as fractions
-fraction_algebra : (s g t u c z i : ℤ) (n : ℕ) → pos 0 ⋖ g → pos 0 ⋖ t
+pub fraction_algebra : (s g t u c z i : ℤ) (n : ℕ) → pos 0 ⋖ g → pos 0 ⋖ t
     → Half (g *ℤ (z *ℤ t -ℤ (c *ℤ s *ℤ u -ℤ c *ℤ t))) (pos 2 *ℤ (i *ℤ g *ℤ t +ℤ pos n *ℤ (c *ℤ s *ℤ u)))
     → (let e : Fraction = record { upper = t; lower = u } in
     AtMost (distance (whole z) (minus (over (whole (c *ℤ s)) e) (whole c))) (plus (whole i) (over (times (whole (pos n)) (over (whole (c *ℤ s)) e)) (whole g))))
@@ -105,10 +105,10 @@ module _ (m : ℕ) (few : m ≤ 20) (paid : List ℤ) (ok : Sound m paid) (i : �
   abbrev u : ℤ
   u = (G m paid (m - i)).lower
 
-  x_pos : pos 0 ⋖ x
+  pub x_pos : pos 0 ⋖ x
   x_pos = g_pos m paid ok (m - i) (omega arith)
 
-  c_low : pos 0 ⩽ c
+  pub c_low : pos 0 ⩽ c
   c_low = latest_nonneg m paid ok i h l
 
   pub ultimate_near : Half (x *ℤ w -ℤ c *ℤ S) x
@@ -124,10 +124,10 @@ module _ (m : ℕ) (few : m ≤ 20) (paid : List ℤ) (ok : Sound m paid) (i : �
       c_s_low : pos 0 ⩽ c *ℤ S
       c_s_low = *ℤ_nonneg c_low (<ℤ-≤ℤ S_pos)
 
-  at_x : Apart (i - 1) x (record { upper = t; lower = u })
+  pub at_x : Apart (i - 1) x (record { upper = t; lower = u })
   at_x = let e : m - 1 - (m - i) ≡ i - 1 = omega arith in rw e at (shares_apart m paid ok (m - i) (omega arith))
 
-  few_years : pos (i - 1) ⩽ S
+  pub few_years : pos (i - 1) ⩽ S
   unfolding S
   few_years = omega (arith, ints)
 
@@ -141,13 +141,3 @@ module _ (m : ℕ) (few : m ≤ 20) (paid : List ℤ) (ok : Sound m paid) (i : �
     any_base v =
         year_algebra S (year_cells m b p v i) v (S -ℤ x) (at b 0) ∣ v ∣ (i - 1) S_pos (abs_nonneg v) b-S
         (rw (← shares_ahead) (year_near m b p v (b_list m paid) solves i h l))
-
-    -- plain DCL, for any delays that solve the system
-    pub any_delays : AtMost (distance (whole (year_cells m b p w i)) (reserve m paid i)) (bound m paid i)
-    unfolding H reserve bound
-    any_delays =
-        let e : i ≡ i - 1 + 1 = omega arith in
-        fraction_algebra S x t u c (year_cells m b p w i) (pos i) (i - 1) x_pos at_x.upper_pos
-        (bound_algebra S x t u c w (year_cells m b p w i) (pos i) (i - 1) (ap pos e) few_years S_pos x_pos
-        (g_range m paid ok (m - i) (omega arith)).1 at_x.upper_pos at_x.at_most-S c_low
-        (rw (abs_of ultimate_nonneg) at (any_base w)) ultimate_near at_x.apart)

@@ -1,2 +1,2 @@
 // Demand 3: the forecast's distance to the unrounded paid chain-ladder reserve. The theorems stand
-// in specs/; there is no code.
+// in specs/ and proofs/; there is no code.

@@ -16,7 +16,8 @@ use Rattle.model.specs.RowBases.{row_base}
 use Rattle.model.specs.Cells.{s_list, rbns, ibnr, output_from}
 use Rattle.model.proofs.SameDelays.{same_output}
 use Rattle.model.specs.PaidReserve.{NearReserves}
-use Rattle.paid_reserve.specs.Demand3.{own_solve, demand_3}
+use Rattle.paid_reserve.specs.Demand3.{own_solve}
+use Rattle.paid_reserve.proofs.Demand3.{demand_3}
 use Rattle.model.specs.Questions.{Question, q6, q12, q20, first_no, of_shares, of_delays, of_given_delays, of_method, of_forecast}
 use Rattle.model.specs.QuestionsLaws.{numbered, stage_no, stage_yes, stages_so}
 use Rattle.model.specs.Tests.{by_test}

@@ -3,4 +3,4 @@ use borrow.Author.Rules.{rules}
 use Rattle.c_api.proofs.closing.pardesul_respond.Goals as goal
 
 pub returns : goal.returns
-returns c = c.before.before.before.respond.ensures
+returns c = let w = c.respond.ensures in record { value = w.0; out_after = w.1 }

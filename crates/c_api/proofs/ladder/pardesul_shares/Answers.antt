@@ -6,7 +6,14 @@ use Rattle.c_api.proofs.ladder.pardesul_shares.Goals as goal
 
 pub returns : goal.returns
 returns c =
-    let w = c.before.before.before in
-    let a = w.before.before.before.before.before.before.before.args in
-    let e = w.shares_into-refusal.ensures in
-    (e.value, (c.before.store_line.ensures ∙ shares_line a.m a.file.now e.value a.line.now, e.1))
+    let a = c.args in
+    let e = c.shares_into-refusal.ensures in
+    record {
+      value = e.value;
+      line_after = c.store_line.ensures ∙ shares_line a.m a.file.now e.value a.line.now;
+      b_after = e.b_after;
+      n_after = e.n_after;
+      q_after = e.q_after;
+      g_after = e.g_after;
+      u_after = e.u_after;
+    }

@@ -47,4 +47,4 @@ returns c =
     let two = v.before.before.before.before in
     let one = two.before.before.before in
     let o = one.before.before.before in
-    let e = read_yes _ _ _ _ o.before.read_cells-refusal.ensures o.if-refusal-ne0.false in record { value = ap (λ (a : ReadAnswer). a.refusal) e; line_after = v.line.ensures ∙ ap (λ (a : ReadAnswer). a.set-1.line) e; has_incurred_after = as_number c.before.has_incurred.result ∙ ap (λ (t : Bool). cond t 1 0) (c.before.has_incurred.ensures ∙ ap (λ (a : ReadAnswer). a.set-1.has_incurred) e); counts_after = one.copy_kind.ensures ∙ ap (λ (a : ReadAnswer). a.set-1.counts) e; paid_after = two.copy_kind-2.ensures ∙ ap (λ (a : ReadAnswer). a.set-1.paid) e; incurred_after = v.before.copy_kind-3.ensures ∙ ap (λ (a : ReadAnswer). a.set-1.incurred) e }
+    let e = read_yes _ _ _ _ o.before.read_cells-refusal.ensures o.if-refusal-ne0.false in record { value = ap (λ (a : ReadAnswer). a.refusal) e; line_after = v.line.ensures ∙ ap (λ (a : ReadAnswer). a.set.line) e; has_incurred_after = as_number c.before.has_incurred.result ∙ ap (λ (t : Bool). cond t 1 0) (c.before.has_incurred.ensures ∙ ap (λ (a : ReadAnswer). a.set.has_incurred) e); counts_after = one.copy_kind.ensures ∙ ap (λ (a : ReadAnswer). a.set.counts) e; paid_after = two.copy_kind-2.ensures ∙ ap (λ (a : ReadAnswer). a.set.paid) e; incurred_after = v.before.copy_kind-3.ensures ∙ ap (λ (a : ReadAnswer). a.set.incurred) e }

@@ -1,4 +1,5 @@
 // Rounded quotients of a product by a number, also past 64 bits (01, Rounding).
+#![tactic(auto)]
 
 ghost use Rattle.std.specs.Prelude.{◌≡◌, true, ◌+◌, ◌*◌, ◌/◌, ◌^◌, ◌<◌, ◌≤◌, min, pos, nat_abs, ◌*ℤ◌};
 ghost use Rattle.integers.specs.Parts.{◌⋖◌};

@@ -1,5 +1,6 @@
 // The chain ladder of a set (01, Shares): shares and ultimates of a file, and the questions 9 to 11
 // and 13.
+#![tactic(auto)]
 
 ghost use Rattle.std.specs.Prelude.{◌≡◌, ◌^◌, ◌≤◌};
 ghost use Rattle.std.specs.Int.Signed.{le_z};

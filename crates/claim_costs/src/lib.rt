@@ -1,4 +1,6 @@
 // The claim costs of a file (01, Claim-cost card): mu, the factors of paid, and the inflations.
+#![tactic(auto)]
+
 ghost use Rattle.std.specs.Prelude.{◌≡◌, suc, ◌^◌, ◌≤◌, T};
 ghost use Rattle.std.specs.Float.Ieee.Positive.{positive};
 ghost use Rattle.model.specs.Lists.{at, listed};

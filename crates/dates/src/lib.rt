@@ -1,4 +1,5 @@
 // Dates of the Gregorian calendar (02, Job 5): their numbers, and the anniversaries of a date.
+#![tactic(auto)]
 
 ghost use Rattle.std.specs.Prelude.{◌≡◌, true, ◌+◌, ◌≤◌};
 ghost use Rattle.model.specs.Dates.{leap, month_length, is_date, days_before_year, days_before_month, day_number, anniversary_day, anniversary};

@@ -1,5 +1,7 @@
 // The delays of a set (01, Delays) and of a file, solved or given (02, Job 6), and all that the
 // methods share.
+#![tactic(auto)]
+
 ghost use Rattle.std.specs.Prelude.{◌≡◌, cond, ◌^◌};
 ghost use Rattle.model.specs.Calls.{if_accepted, zeros, delays_answer, check_delays_answer};
 ghost use Rattle.model.specs.Lent.{triangle_in};

@@ -1,6 +1,6 @@
 -- Examples of the line of cover (02, Job 7): K and 01's set of the back-test on lines 1 to 6. Their
 -- amounts are those of line 0. Assumes nothing.
-use Rattle.std.specs.Prelude.{ℕ, ◌-◌, ◌^◌, ◌≡◌, refl, Bool, true, false, List, [], ◌∷◌, ◌++◌, ℤ, pos, take, replicate, set}
+use Rattle.std.specs.Prelude.{ℕ, ◌-◌, ◌^◌, ◌≡◌, refl, true, false, List, [], ◌∷◌, ◌++◌, ℤ, pos, take, replicate, set}
 use Rattle.model.specs.Records.{given_set}
 use Rattle.model.specs.Calls.{zeros, accepted_read, refused_read, read_answer, write_refusal, refused_shares, shares_answer, accepted_delays, delays_answer, accepted_check, refused_check, check_delays_answer, accepted_forecast, refused_forecast, forecast_answer, forecast_output, forecast_with_answer, claim_costs_answer, accepted_back_test, refused_back_test, back_test_answer, file_text}
 use Rattle.model.specs.Examples as Examples

@@ -1,4 +1,6 @@
 // The chain ladder from a triangle's sums: cumulative shares, shares and ultimates (01, Shares).
+#![tactic(auto)]
+
 pub mod sums;
 
 ghost use Rattle.std.specs.Prelude.{◌≡◌, ◌*◌, ◌^◌, ◌≤◌, pos, nat_abs, ◌*ℤ◌};

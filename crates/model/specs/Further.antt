@@ -1,6 +1,6 @@
 -- Examples of our own, for what 01's leave open. The values are those of an independent calculation
 -- with big numbers.
-use Rattle.std.specs.Prelude.{ℕ, ◌+◌, ◌-◌, ◌%◌, ◌^◌, ◌≡◌, refl, Bool, true, false, ◌&&◌, cond, List, [], ◌∷◌, ◌++◌, T, eqb, ℤ, pos, neg_ℤ, ◌*ℤ◌, length, take, replicate, get_or, set}
+use Rattle.std.specs.Prelude.{ℕ, ◌%◌, ◌^◌, ◌≡◌, refl, Bool, true, false, ◌&&◌, cond, List, [], ◌∷◌, ◌++◌, T, eqb, ℤ, pos, neg_ℤ, ◌*ℤ◌, length, take, replicate, get_or, set}
 use Rattle.std.specs.Float.Ieee.{div, of_int}
 use Rattle.model.specs.Lists.{tabulate, chained}
 use Rattle.model.specs.Records.{set_of}

@@ -1,6 +1,6 @@
 -- More examples of our own: the back-test, room for a forecast and for a file. The values are those
 -- of an independent calculation with big numbers.
-use Rattle.std.specs.Prelude.{◌-◌, ◌^◌, ◌≡◌, refl, true, false, List, [], ◌∷◌, ◌++◌, ℤ, pos, replicate}
+use Rattle.std.specs.Prelude.{◌^◌, ◌≡◌, refl, true, false, List, [], ◌∷◌, ◌++◌, ℤ, pos, replicate}
 use Rattle.model.specs.Questions.{q8}
 use Rattle.model.specs.Calls.{write_refusal, write_output, refused_forecast, forecast_answer, forecast_output, accepted_back_test, refused_back_test, back_test_of, back_test_answer}
 use Rattle.model.specs.Examples.{two}

@@ -1,6 +1,6 @@
 -- A set that is lent as one list of 1,200 numbers: counts, then paid, then incurred, 400 places
 -- each (01, Triangle records).
-use Rattle.std.specs.Prelude.{ℕ, ◌+◌, ◌-◌, ◌*◌, ◌<◌, ◌≡◌, List, ℤ, pos}
+use Rattle.std.specs.Prelude.{ℕ, ◌+◌, ◌*◌, ◌<◌, ◌≡◌, List, ℤ, pos}
 use Rattle.model.specs.Lists.{tabulate, at}
 use Rattle.model.specs.ListsLaws.{get_d_tabulate}
 use Rattle.model.specs.Records.{set_of}

@@ -1,5 +1,6 @@
 // The data that the library's calls take and hand back. Their meaning is in specs/, a file for each
 // section of document 01.
+#![tactic(auto)]
 
 // A set of triangles: its line of cover (02, Job 7), 0 to 5, and cell (i,j) at 20 × (i-1) + j, with
 // zeros in the other places. `has_incurred` says that incurred is there beside counts and paid.

@@ -1,5 +1,6 @@
 // The whole number nearest to a quotient (01, Rounding): the rule for halves, and the rounding of a
 // quotient and a remainder.
+#![tactic(auto)]
 
 ghost use Rattle.std.specs.Prelude.{◌≡◌, ◌+◌, ◌*◌, ◌^◌, ◌<◌, ◌≤◌, pos, nat_abs, ◌*ℤ◌, ◌+ℤ◌};
 ghost use Rattle.integers.specs.Parts.{◌⋖◌};

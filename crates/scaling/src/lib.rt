@@ -1,5 +1,6 @@
 // A cell's quotient: by S², which is past a word (01, Cell forecasts). Digits go by the base S, so
 // that every divisor is a constant.
+#![tactic(auto)]
 
 ghost use Rattle.std.specs.Prelude.{◌≡◌, ◌+◌, ◌*◌, ◌/◌, ◌%◌, ◌^◌, ◌<◌, ◌≤◌, nat_abs, ◌*ℤ◌};
 ghost use Rattle.model.specs.Rounding.{S, r};

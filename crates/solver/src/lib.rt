@@ -1,5 +1,7 @@
 // The triangular system of a set's delays (01, Delays): its solution and question 12; delays that
 // are given (02, Job 6), held against each line, and question 20.
+#![tactic(auto)]
+
 ghost use Rattle.std.specs.Prelude.{◌≡◌, ◌*◌, ◌^◌, ◌≤◌, nat_abs, ◌*ℤ◌, ◌-ℤ◌};
 ghost use Rattle.model.specs.Lists.{at};
 ghost use Rattle.model.specs.Rounding.{S};

@@ -1,4 +1,6 @@
 // The reader of triangle sets (01, Triangle records).
+#![tactic(auto)]
+
 mod cells;
 
 ghost use Rattle.std.specs.Prelude.{◌≡◌, ◌≤◌, ◌<◌, pos, replicate};

@@ -1,4 +1,6 @@
 // The bytes of a set.
+#![tactic(auto)]
+
 ghost use Rattle.std.specs.Prelude.{◌≡◌, ◌+◌, ◌≤◌, ◌<◌, length};
 ghost use Rattle.model.specs.Records.{given_set};
 ghost use Rattle.model.specs.Overlay.{overlay};

@@ -1,5 +1,6 @@
 // The calendar-year tally (01, Calendar years), which stands with its one method below the
 // definitions that speak of it.
+#![tactic(auto)]
 
 ghost use Rattle.std.specs.Prelude.{◌≡◌, ◌+ℤ◌};
 ghost use Rattle.year_tally.specs.TallyAdd.{fits64, tally_add};

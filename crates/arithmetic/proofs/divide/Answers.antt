@@ -2,7 +2,6 @@
 use Prim.Native.Nat.{◌/◌, ◌<◌}
 use native.Mathlib.Nat.{mod-lt, div-add-mod', div-lt_iff_lt-mul}
 use native.Mathlib.Omega.{arith}
-use borrow.Author.Rules.{rules}
 use Rattle.arithmetic.proofs.divide.Goals as goal
 use Rattle.arithmetic.proofs.divide.Goals.{Start}
 

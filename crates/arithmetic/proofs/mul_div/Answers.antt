@@ -3,7 +3,6 @@ use mir.Syntax.{w64}
 use mathlib.Core.Path.{◌∙◌}
 use native.Mathlib.Omega.{arith}
 use mir.Facts.{to_z-of_z}
-use borrow.Author.Rules.{rules}
 use Rattle.rounding.specs.Words.{abs_read}
 use Rattle.arithmetic.proofs.mul_div.Goals as goal
 

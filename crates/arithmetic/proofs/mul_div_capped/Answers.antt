@@ -6,7 +6,6 @@ use Prim.Native.Nat.{◌+◌, ◌*◌, ◌^◌}
 use native.Mathlib.Omega.{arith}
 use lib.IntN.{nat_abs, ◌*ℤ◌}
 use mir.Facts.{to_z-of_z}
-use borrow.Author.Rules.{rules}
 use Rattle.integers.specs.Order.{nat_abs-*ℤ}
 use Rattle.model.specs.Rounding.{r}
 use Rattle.rounding.specs.RoundingLaws.{r_abs_least}

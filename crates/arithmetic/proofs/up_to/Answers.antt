@@ -3,7 +3,6 @@ use mathlib.Core.Path.{◌≡◌, sym, ap, ◌∙◌}
 use native.Mathlib.Omega.{arith}
 use lib.IntN.{nat_abs}
 use mir.Facts.{to_z-of_z}
-use borrow.Author.Rules.{rules}
 use Rattle.rounding.specs.Words.{abs_read}
 use Rattle.arithmetic.specs.Capped.{capped_within, capped_over}
 use Rattle.arithmetic.specs.declared.Capped.TheVariants.{Within}

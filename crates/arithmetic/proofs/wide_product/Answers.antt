@@ -1,7 +1,6 @@
 -- `arithmetic::wide_product` meets its contract. Assumes nothing.
 use mathlib.Core.Path.{◌≡◌, ◌∙◌}
 use native.Mathlib.Omega.{arith}
-use borrow.Author.Rules.{rules}
 use lib.IntN.{nat_abs}
 use Rattle.rounding.specs.Words.{abs_read}
 use Rattle.arithmetic.proofs.wide_product.Goals as goal

@@ -3,7 +3,6 @@
 use mathlib.Core.Path.{refl, sym, ◌∙◌, ap}
 use mathlib.Core.List.{List}
 use Prim.Native.Nat.{ℕ}
-use borrow.Author.Rules.{rules}
 use Rattle.model.specs.Records.{set_of}
 use Rattle.model.specs.Lent.{lent_set}
 use Rattle.model.specs.declared.TriangleSet.{TriangleSet}

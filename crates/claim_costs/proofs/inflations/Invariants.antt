@@ -1,15 +1,9 @@
-use mathlib.Core.Path.{◌≡◌, ap}
+use mathlib.Core.Path.{◌≡◌}
 use mathlib.Core.List.{List}
 use Prim.Native.Nat.{ℕ, suc, ◌-◌, ◌≤◌}
-use native.Mathlib.Numerals.{add-one}
-use native.Mathlib.Omega.{arith}
 use lib.IntN.{ℤ}
 use lib.Ieee.{Float}
-use mir.Syntax.{w64}
-use mir.Val.{to_z, of_z}
-use mir.Facts.{to_z-of_z}
 use Rattle.model.specs.Lists.{at, listed}
-use Rattle.model.specs.ListsLaws.{listed_none, listed_next}
 use Rattle.model.specs.ClaimCosts.{year_inflation}
 use Rattle.model.specs.declared.YearInflation.{YearInflation}
 use Rattle.model.specs.declared.Inflation.TheVariants.{NoPaymentsYet}

@@ -1,18 +1,15 @@
 -- `quotients` meets its contract: the quotients so far are made. Assumes nothing.
 use mathlib.Core.Path.{◌≡◌, ◌∙◌, ap₂}
-use mathlib.Core.List.{List}
-use Prim.Native.Nat.{ℕ, ◌-◌, ◌≤◌}
+use Prim.Native.Nat.{ℕ}
 use native.Mathlib.Omega.{arith}
-use lib.IntN.{ℤ}
-use lib.Ieee.{Float, of_bits}
+use lib.Ieee.{of_bits}
 use mir.Syntax.{w64}
 use mir.Val.{to_z, of_z}
 use mir.Facts.{to_z-of_z}
-use Rattle.model.specs.Lists.{at, listed}
+use Rattle.model.specs.Lists.{at}
 use Rattle.model.specs.ListsLaws.{listed_none, listed_next}
 use Rattle.model.specs.ClaimCosts as ClaimCosts
 use Rattle.model.specs.ClaimCosts.{no_float}
-use Rattle.claim_costs.proofs.quotients.Invariants.{entry}
 use Rattle.claim_costs.proofs.quotients.Goals as goal
 use Rattle.claim_costs.proofs.quotients.Goals.{After-y-1, Start}
 

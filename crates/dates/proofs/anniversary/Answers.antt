@@ -1,5 +1,4 @@
 -- `dates::anniversary` meets its contract. Assumes nothing.
-use borrow.Author.Rules.{rules}
 use native.Mathlib.Omega.{arith}
 use Rattle.model.specs.Dates.{anniversary}
 use Rattle.dates.proofs.anniversary.Goals as goal

@@ -1,6 +1,5 @@
 -- `dates::day_number` meets its contract: the sum of its three parts is far below 2^64. Assumes
 -- nothing.
-use borrow.Author.Rules.{rules}
 use Prim.Native.Nat.{◌+◌, ◌*◌, ◌^◌, ◌≤◌}
 use native.Mathlib.Omega.{arith}
 use Rattle.model.specs.Dates.{day_number}

@@ -2,7 +2,7 @@
 -- month k. Assumes nothing.
 use mathlib.Core.Path.{◌≡◌, sym, ◌∙◌}
 use mathlib.Core.Bool.{false}
-use Prim.Native.Nat.{◌+◌, ◌-◌, ◌≤◌}
+use Prim.Native.Nat.{◌+◌, ◌≤◌}
 use native.Mathlib.Omega.{arith}
 use Rattle.model.specs.Dates.{month_days, days_before_month}
 use Rattle.dates.specs.DatesLaws.{month_none, month_more, months_few, common_month, before_march, from_march}

@@ -1,9 +1,7 @@
-use mathlib.Core.Path.{◌≡◌, sym, ◌∙◌}
+use mathlib.Core.Path.{◌≡◌}
 use mathlib.Core.Bool.{false}
-use Prim.Native.Nat.{◌+◌, ◌-◌, ◌≤◌}
-use native.Mathlib.Omega.{arith}
-use Rattle.model.specs.Dates.{month_days, days_before_month}
-use Rattle.dates.specs.DatesLaws.{month_none, month_more, months_few, common_month, before_march, from_march}
+use Prim.Native.Nat.{◌-◌, ◌≤◌}
+use Rattle.model.specs.Dates.{days_before_month}
 use Rattle.dates.proofs.days_before_month.Given as goal
 
 abbrev pub invariant-loop-k : goal.invariant-loop-k

@@ -1,5 +1,4 @@
 -- `dates::days_before_year` meets its contract: the law of the years by division. Assumes nothing.
-use borrow.Author.Rules.{rules}
 use native.Mathlib.Omega.{arith}
 use Rattle.dates.specs.DatesLaws.{years_by_division}
 use Rattle.dates.proofs.days_before_year.Goals as goal

@@ -9,7 +9,7 @@ use mir.Val.{SFits, to_z, of_z}
 use mir.Facts.{to_z-of_z}
 use lib.ListN.{replicate}
 use Rattle.integers.specs.Order.{nat_abs--ℤ}
-use Rattle.model.specs.Lists.{at, listed}
+use Rattle.model.specs.Lists.{at}
 use Rattle.model.specs.ListsLaws.{listed_none, listed_next}
 use Rattle.rounding.specs.Words.{fits_abs}
 use Rattle.ladder.specs.Ladder.{difference}

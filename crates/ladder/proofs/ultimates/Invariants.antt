@@ -1,16 +1,8 @@
-use mathlib.Core.Path.{◌≡◌, ◌∙◌}
-use Prim.Native.Nat.{ℕ, suc, ◌-◌, ◌*◌, ◌^◌, ◌≤◌}
-use native.Mathlib.Omega.{arith}
-use lib.IntN.{ℤ, pos, nat_abs}
-use mir.Syntax.{w64}
-use mir.Val.{to_z, of_z}
-use mir.Facts.{to_z-of_z}
-use Rattle.integers.specs.Parts.{◌⋖◌}
-use Rattle.model.specs.Lists.{at, listed}
-use Rattle.model.specs.ListsLaws.{listed_none, listed_next}
-use Rattle.model.specs.Rounding.{S}
+use mathlib.Core.Path.{◌≡◌}
+use Prim.Native.Nat.{◌-◌, ◌≤◌}
+use lib.IntN.{pos}
+use Rattle.model.specs.Lists.{listed}
 use Rattle.ladder.specs.Ladder.{grown}
-use Rattle.ladder.specs.LadderLaws.{bounds_abs}
 use Rattle.ladder.proofs.ultimates.Given as goal
 
 abbrev pub invariant-loop-k : goal.invariant-loop-k

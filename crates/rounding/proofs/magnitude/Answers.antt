@@ -11,7 +11,6 @@ use lib.Signed.{lt_z, non_neg}
 use mir.Syntax.{w64}
 use mir.Val.{Fits, SFits, to_z, of_z}
 use mir.Facts.{to_z-of_z}
-use borrow.Author.Rules.{rules}
 use borrow.Author.Tests.{ltb-true}
 use Rattle.rounding.proofs.magnitude.Goals as goal
 use Rattle.rounding.proofs.magnitude.Goals.{Then-a-lt0}

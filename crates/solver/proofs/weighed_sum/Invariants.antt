@@ -1,17 +1,9 @@
-use mathlib.Core.Path.{◌≡◌, ◌∙◌, ap}
+use mathlib.Core.Path.{◌≡◌}
 use mathlib.Core.List.{List}
 use Prim.Native.Nat.{ℕ, suc, ◌+◌, ◌-◌, ◌≤◌}
-use native.Mathlib.Omega.{arith}
-use lib.IntN.{ℤ, ◌+ℤ◌, ◌*ℤ◌}
-use mir.Syntax.{w64}
-use mir.Val.{SFits, to_z, of_z}
-use mir.Facts.{to_z-of_z}
+use lib.IntN.{ℤ, ◌*ℤ◌}
 use Rattle.integers.specs.Sums.{sum}
 use Rattle.model.specs.Lists.{at}
-use Rattle.rounding.specs.Words.{fits_abs}
-use Rattle.rounding.specs.Running.{sum_none, held, sum_more}
-use Rattle.solver.specs.Solved.{Weighed, weighed_sum}
-use Rattle.solver.specs.SolvedLaws.{product_small, part_small}
 use Rattle.solver.proofs.weighed_sum.Given as goal
 
 abbrev pub term : List ℤ → List ℤ → ℕ → ℕ → ℕ → ℤ

@@ -2,9 +2,9 @@
 use native.Mathlib.Omega.{arith}
 use borrow.Author.Rules.{rules}
 use mathlib.Core.Path.{◌≡◌, ◌∙◌}
-use Prim.Native.Nat.{◌≤◌, ◌-◌, ◌+◌, ◌*◌}
+use Prim.Native.Nat.{◌+◌, ◌*◌}
 use lib.IntN.{pos}
-use Rattle.model.specs.Lists.{at, listed}
+use Rattle.model.specs.Lists.{at}
 use Rattle.model.specs.ListsLaws.{listed_none, listed_next, listed_whole}
 use Rattle.model.specs.Lent.{triangle_in}
 use mir.Syntax.{w64}

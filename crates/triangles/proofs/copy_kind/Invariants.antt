@@ -1,14 +1,7 @@
-use native.Mathlib.Omega.{arith}
-use borrow.Author.Rules.{rules}
-use mathlib.Core.Path.{◌≡◌, ◌∙◌}
+use mathlib.Core.Path.{◌≡◌}
 use Prim.Native.Nat.{◌≤◌, ◌-◌, ◌+◌, ◌*◌}
 use lib.IntN.{pos}
 use Rattle.model.specs.Lists.{at, listed}
-use Rattle.model.specs.ListsLaws.{listed_none, listed_next, listed_whole}
-use Rattle.model.specs.Lent.{triangle_in}
-use mir.Syntax.{w64}
-use mir.Val.{SFits}
-use mir.Facts.{to_z-of_z}
 use Rattle.triangles.proofs.copy_kind.Given as goal
 
 abbrev pub invariant-loop-p : goal.invariant-loop-p

@@ -1,5 +1,4 @@
 -- `has_incurred` meets its contract. Assumes nothing.
-use borrow.Author.Rules.{rules}
 use native.Mathlib.Omega.{arith}
 use mathlib.Core.Bool.{true}
 use Rattle.model.specs.Records.{has_incurred}

@@ -1,5 +1,4 @@
 -- `line` meets its contract: a file of less than four bytes has none. Assumes nothing.
-use borrow.Author.Rules.{rules}
 use native.Mathlib.Omega.{arith}
 use mathlib.Core.Path.{sym}
 use lib.ListN.{get_or-eq_default}

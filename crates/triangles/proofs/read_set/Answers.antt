@@ -1,5 +1,4 @@
 -- `read_set` meets its contract: what `read_cells` leaves, by value. Assumes nothing.
-use borrow.Author.Rules.{rules}
 use mathlib.Core.Path.{◌∙◌}
 use Rattle.model.specs.Records.{set_of}
 use Rattle.triangles.specs.LentLaws.{read_no, read_size, read_yes}

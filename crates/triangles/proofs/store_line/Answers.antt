@@ -1,5 +1,4 @@
 -- `store_line` meets its contract. Assumes nothing.
-use borrow.Author.Rules.{rules}
 use mathlib.Core.Path.{sym, ◌∙◌}
 use Rattle.model.specs.CallsLaws.{if_refused, if_accepted_lem}
 use Rattle.triangles.proofs.store_line.Goals as goal

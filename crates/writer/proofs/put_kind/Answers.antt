@@ -2,10 +2,9 @@
 use native.Mathlib.Omega.{arith}
 use native.Mathlib.Numerals.{add-one}
 use borrow.Author.Rules.{rules}
-use Prim.Native.Nat.{suc, ◌-◌, ◌≤◌}
 use mathlib.Core.Path.{◌≡◌}
-use Rattle.writer.specs.Written.{year_bytes, kind_bytes}
-use Rattle.writer.proofs.Chained.{Filled, filled_none, filled_room, filled_next}
+use Rattle.writer.specs.Written.{kind_bytes}
+use Rattle.writer.proofs.Chained.{filled_none, filled_room, filled_next}
 use Rattle.writer.proofs.put_kind.Goals as goal
 
 pub put_year-next-requires : goal.put_year-next-requires

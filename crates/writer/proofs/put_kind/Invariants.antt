@@ -1,10 +1,6 @@
-use native.Mathlib.Omega.{arith}
-use native.Mathlib.Numerals.{add-one}
-use borrow.Author.Rules.{rules}
 use Prim.Native.Nat.{suc, ◌-◌, ◌≤◌}
-use mathlib.Core.Path.{◌≡◌}
-use Rattle.writer.specs.Written.{year_bytes, kind_bytes}
-use Rattle.writer.proofs.Chained.{Filled, filled_none, filled_room, filled_next}
+use Rattle.writer.specs.Written.{year_bytes}
+use Rattle.writer.proofs.Chained.{Filled}
 use Rattle.writer.proofs.put_kind.Given as goal
 
 abbrev pub invariant-loop-k : goal.invariant-loop-k

@@ -2,15 +2,15 @@
 use mir.Syntax.{w64}
 use native.Mathlib.Omega.{arith}
 use borrow.Author.Rules.{rules}
-use Prim.Native.Nat.{ℕ, ◌+◌, ◌-◌, ◌≤◌}
+use Prim.Native.Nat.{ℕ, ◌+◌}
 use mathlib.Core.Path.{◌≡◌, sym, ap, ◌∙◌}
 use mir.Facts.{to_z-of_z}
 use Rattle.model.specs.Records.{cell}
 use Rattle.model.specs.Overlay.{overlay}
 use Rattle.model.specs.SetFile.{word, record_of}
-use Rattle.writer.specs.Written.{cell_bytes, year_bytes}
+use Rattle.writer.specs.Written.{year_bytes}
 use Rattle.writer.proofs.WrittenLaws.{length_record}
-use Rattle.writer.proofs.Chained.{Filled, filled_room, filled_none, filled_next}
+use Rattle.writer.proofs.Chained.{filled_room, filled_none, filled_next}
 use Rattle.writer.proofs.put_year.Goals as goal
 
 pub put-requires : goal.put-requires

@@ -1,14 +1,6 @@
-use native.Mathlib.Omega.{arith}
-use borrow.Author.Rules.{rules}
-use Prim.Native.Nat.{ℕ, ◌+◌, ◌-◌, ◌≤◌}
-use mathlib.Core.Path.{◌≡◌, sym, ap, ◌∙◌}
-use mir.Facts.{to_z-of_z}
-use Rattle.model.specs.Records.{cell}
-use Rattle.model.specs.Overlay.{overlay}
-use Rattle.model.specs.SetFile.{word, record_of}
-use Rattle.writer.specs.Written.{cell_bytes, year_bytes}
-use Rattle.writer.proofs.WrittenLaws.{length_record}
-use Rattle.writer.proofs.Chained.{Filled, filled_room, filled_none, filled_next}
+use Prim.Native.Nat.{◌-◌, ◌≤◌}
+use Rattle.writer.specs.Written.{cell_bytes}
+use Rattle.writer.proofs.Chained.{Filled}
 use Rattle.writer.proofs.put_year.Given as goal
 
 abbrev pub invariant-loop-j : goal.invariant-loop-j

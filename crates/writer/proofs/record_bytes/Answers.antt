@@ -1,5 +1,4 @@
 -- `record_bytes` meets its contract. Assumes nothing.
-use borrow.Author.Rules.{rules}
 use mathlib.Core.Path.{refl}
 use Rattle.model.specs.SetFile.{bytes, record_of}
 use Rattle.writer.proofs.record_bytes.Goals as goal

@@ -1,14 +1,10 @@
 -- `latest_sums` meets its contract: the rows so far are summed. Assumes nothing.
 use mir.Syntax.{w64}
 use mathlib.Core.Path.{◌≡◌, ◌∙◌}
-use Prim.Native.Nat.{suc, ◌-◌, ◌≤◌}
 use native.Mathlib.Omega.{arith}
 use lib.IntN.{pos}
 use mir.Facts.{to_z-of_z}
-use Rattle.model.specs.Lists.{listed}
 use Rattle.model.specs.ListsLaws.{listed_none, listed_next}
-use Rattle.model.specs.Lent.{triangle_in}
-use Rattle.model.specs.Shares.{latest}
 use Rattle.ladder.specs.Sums.{latests}
 use Rattle.ladder.specs.SumsLaws.{row_sum, row_spaced}
 use Rattle.ladder.proofs.sums.latest_sums.Goals as goal

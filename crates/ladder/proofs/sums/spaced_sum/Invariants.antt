@@ -1,13 +1,7 @@
-use mathlib.Core.Path.{◌≡◌, ap}
-use Prim.Native.Nat.{ℕ, ◌+◌, ◌-◌, ◌*◌, ◌≤◌, ◌<◌}
-use native.Mathlib.Omega.{arith}
-use lib.IntN.{ℤ, ◌+ℤ◌}
-use mir.Syntax.{w64}
-use mir.Val.{SFits, to_z, of_z}
-use mir.Facts.{to_z-of_z}
+use mathlib.Core.Path.{◌≡◌}
+use Prim.Native.Nat.{◌+◌, ◌-◌, ◌*◌, ◌≤◌}
 use Rattle.integers.specs.Sums.{sum}
 use Rattle.model.specs.Lists.{at}
-use Rattle.rounding.specs.Running.{sum_none, sum_fits, held, sum_more}
 use Rattle.ladder.proofs.sums.spaced_sum.Given as goal
 
 abbrev pub invariant-loop-k : goal.invariant-loop-k

@@ -1,22 +1,9 @@
-use mathlib.Core.Path.{◌≡◌, sym, ◌∙◌, ap, ap₂}
-use mathlib.Core.List.{List}
-use Prim.Native.Nat.{ℕ, suc, ◌+◌, ◌-◌, ◌*◌, ◌^◌, ◌≤◌, ◌<◌}
-use native.Mathlib.Numerals.{add-one}
-use native.Mathlib.Omega.{arith}
-use lib.IntN.{ℤ, pos, ◌+ℤ◌, ◌-ℤ◌}
-use mir.Syntax.{w64}
-use mir.Val.{SFits, to_z, of_z}
-use mir.Facts.{to_z-of_z}
-use Rattle.integers.specs.Sums.{sum}
-use Rattle.model.specs.Lists.{at, listed}
-use Rattle.model.specs.ListsLaws.{listed_none, listed_next}
+use mathlib.Core.Path.{◌≡◌}
+use Prim.Native.Nat.{suc, ◌-◌, ◌≤◌}
+use lib.IntN.{pos}
+use Rattle.model.specs.Lists.{listed}
 use Rattle.model.specs.Lent.{triangle_in}
 use Rattle.model.specs.Shares.{A, B}
-use Rattle.ladder.specs.Sums.{Small, latests, a_sums, b_sums}
-use Rattle.ladder.specs.LadderLaws.{at_latests}
-use Rattle.ladder.specs.SumsLaws.{B-first, A-next, B-next, A-small, B-small, column_sum, column_spaced}
-use Rattle.rounding.specs.Words.{fits_abs}
-use Rattle.rounding.specs.Running.{held}
 use Rattle.ladder.proofs.sums.sums.Given as goal
 
 abbrev pub invariant-loop-k : goal.invariant-loop-k

@@ -1,5 +1,4 @@
 -- `byte` meets its contract: an element of a slice of bytes is below 256. Assumes nothing.
-use borrow.Author.Rules.{rules}
 use native.Mathlib.Omega.{arith}
 use Rattle.records.proofs.fields.byte.Goals as goal
 

@@ -1,5 +1,4 @@
 -- `eight` meets its contract. Assumes nothing.
-use borrow.Author.Rules.{rules}
 use native.Mathlib.Omega.{arith}
 use Rattle.records.specs.Bytes.{least_eight, bytes_then}
 use Rattle.records.proofs.fields.eight.Goals as goal

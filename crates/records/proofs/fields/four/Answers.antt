@@ -1,5 +1,4 @@
 -- `four` meets its contract. Assumes nothing.
-use borrow.Author.Rules.{rules}
 use native.Mathlib.Omega.{arith}
 use Rattle.records.specs.Bytes.{least_four, bytes_then}
 use Rattle.records.proofs.fields.four.Goals as goal

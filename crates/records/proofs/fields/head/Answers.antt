@@ -1,5 +1,4 @@
 -- `head` meets its contract. Assumes nothing.
-use borrow.Author.Rules.{rules}
 use Rattle.records.specs.Bytes.{head_at}
 use Rattle.records.proofs.fields.head.Goals as goal
 

@@ -1,5 +1,4 @@
 -- `to_signed` meets its contract, by the laws of `Signs`. Assumes nothing.
-use borrow.Author.Rules.{rules}
 use Rattle.records.proofs.Signs.{low, high, high_fits}
 use Rattle.records.proofs.fields.to_signed.Goals as goal
 

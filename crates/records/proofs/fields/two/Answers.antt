@@ -1,5 +1,4 @@
 -- `two` meets its contract. Assumes nothing.
-use borrow.Author.Rules.{rules}
 use native.Mathlib.Omega.{arith}
 use Rattle.records.specs.Bytes.{least_two, bytes_two}
 use Rattle.records.proofs.fields.two.Goals as goal

@@ -1,5 +1,4 @@
 -- `record_ok` meets its contract. Assumes nothing.
-use borrow.Author.Rules.{rules}
 use mathlib.Core.Path.{refl}
 use Rattle.records.proofs.questions.record_ok.Goals as goal
 

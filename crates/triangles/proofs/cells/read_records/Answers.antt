@@ -5,7 +5,7 @@ use borrow.Author.Rules.{rules}
 use mathlib.Core.Path.{◌≡◌, sym, ap₂, ◌∙◌}
 use mathlib.Core.Bool.{true, false}
 use mathlib.Core.List.{List, [], ◌∷◌}
-use Prim.Native.Nat.{ℕ, ◌+◌, ◌≤◌, ◌<◌, ◌-◌}
+use Prim.Native.Nat.{ℕ, ◌+◌, ◌≤◌, ◌<◌}
 use lib.IntN.{ℤ}
 use mir.Syntax.{w64}
 use mir.Val.{SFits}
@@ -19,7 +19,7 @@ use Rattle.records.specs.OneRecord.{well_formed, ranged}
 use Rattle.triangles.specs.Keys.{key_at, fresh, RecordsRead}
 use Rattle.records.specs.Bytes.{head_formed}
 use Rattle.triangles.proofs.Once.{parts_so}
-use Rattle.triangles.proofs.Counting.{Flags, flags_none, flags_more, Cells, cells_none, cells_more}
+use Rattle.triangles.proofs.Counting.{flags_none, flags_more, Cells, cells_none, cells_more}
 use Rattle.triangles.proofs.cells.read_records.Goals as goal
 use Rattle.triangles.proofs.cells.read_records.Lts as lts
 use Rattle.triangles.proofs.cells.read_records.Tie as tie

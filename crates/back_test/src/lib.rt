@@ -1,6 +1,8 @@
 // The back-test of a file: the forecast of the set without its latest calendar years, held against
 // what was paid in them. A set is cut by its size: with n in the place of m only the cells with
 // i + j <= n are looked at.
+#![tactic(auto)]
+
 ghost use Rattle.std.specs.Prelude.{◌≡◌, ◌+◌, ◌≤◌};
 ghost use Rattle.model.specs.Calls.{refused_back_test, back_test_answer};
 ghost use Rattle.model.specs.Lent.{lent_set};

@@ -1,4 +1,6 @@
 // Cash by dates (02, Job 5): what of a file's forecast falls due in a window.
+#![tactic(auto)]
+
 ghost use Rattle.std.specs.Prelude.{◌≡◌};
 ghost use Rattle.model.specs.Calls.{refused_cash, cash_answer};
 

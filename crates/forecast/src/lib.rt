@@ -1,5 +1,7 @@
 // The forecast of a file, under three methods, by the delays solved here or by delays that are given
 // (02, Job 6).
+#![tactic(auto)]
+
 ghost use Rattle.std.specs.Prelude.{◌≡◌, pos, length, replicate};
 ghost use Rattle.model.specs.Questions.{q6};
 ghost use Rattle.model.specs.Records.{set_of};

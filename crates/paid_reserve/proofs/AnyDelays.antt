@@ -1,5 +1,5 @@
 -- A year's forecast under plain DCL against its unrounded paid chain-ladder reserve. Assumes nothing.
-use Rattle.std.specs.Prelude.{◌≡◌, List, ℕ, ◌+◌, ◌-◌, ◌≤◌, ℤ, ◌*ℤ◌}
+use Rattle.std.specs.Prelude.{◌≡◌, List, ℕ, ◌+◌, ◌-◌, ◌≤◌, ℤ}
 use Rattle.std.proofs.Common.{ap}
 use native.Mathlib.Omega.{arith}
 use Rattle.std.proofs.Math.IntN.{pos}
@@ -8,7 +8,7 @@ use Rattle.integers.specs.Absolute.{abs_of}
 use Rattle.model.specs.Lists.{at}
 use Rattle.model.specs.Rounding.{S}
 use Rattle.model.specs.Shares.{latest, g, b_list, ultimate}
-use Rattle.model.specs.PaidReserve.{Fraction, whole, distance, AtMost, G, H, reserve, bound}
+use Rattle.model.specs.PaidReserve.{whole, distance, AtMost, G, H, reserve, bound}
 use Rattle.rounding.specs.RoundingLaws.{S_pos}
 use Rattle.ladder.specs.SharesLaws.{Sound, g_range}
 use Rattle.solver.specs.DelaysLaws.{Solves}

@@ -1,6 +1,6 @@
 -- Demand 3: the delays that a set's forecast solves for. The distance to the reserve of the forecast
 -- as it is written is Demand3 of proofs/. Assumes nothing.
-use Rattle.std.specs.Prelude.{◌≡◌, List, ℕ, ◌<◌}
+use Rattle.std.specs.Prelude.{ℕ, ◌<◌}
 use Rattle.std.proofs.Common.{arith}
 use Rattle.model.specs.Shares as Shares
 use Rattle.model.specs.Shares.{b_list}

@@ -14,9 +14,9 @@ use Rattle.integers.specs.Sums.{sum, sum_cong}
 use Rattle.model.specs.Lists.{at}
 use Rattle.model.specs.Rounding.{S}
 use Rattle.model.specs.Shares.{latest, g, b_list, ultimate}
-use Rattle.model.specs.PaidReserve.{Fraction, whole, plus, minus, times, over, distance, AtMost, G, H, reserve, bound}
+use Rattle.model.specs.PaidReserve.{Fraction, whole, plus, minus, times, over, distance, AtMost, G}
 use Rattle.rounding.specs.RoundingLaws.{S_pos, r_near, r_within}
-use Rattle.ladder.specs.SharesLaws.{Sound, at_b_list, shares_left, g_range, g_pos, latest_nonneg}
+use Rattle.ladder.specs.SharesLaws.{Sound, at_b_list, shares_left, g_pos, latest_nonneg}
 use Rattle.solver.specs.DelaysLaws.{Solves}
 use Rattle.paid_reserve.specs.ExactShares.{Apart, shares_apart}
 use Rattle.paid_reserve.specs.YearSum.{year_cells, year_near}

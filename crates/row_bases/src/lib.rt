@@ -1,4 +1,6 @@
 // The row bases and leftovers of a set under a method (01, Row bases), and questions 13 and 14.
+#![tactic(auto)]
+
 mod bases;
 
 ghost use Rattle.std.specs.Prelude.{◌≡◌, ◌^◌, ◌≤◌};

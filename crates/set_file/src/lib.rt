@@ -1,4 +1,6 @@
 // The writer of triangle sets (01, Triangle records; 02, Jobs 2 and 7).
+#![tactic(auto)]
+
 mod questions;
 
 ghost use Rattle.std.specs.Prelude.{◌≡◌, length};

@@ -1,4 +1,6 @@
 // The forecast of a set, under three methods: questions 9 to 14, or 20 in place of 12.
+#![tactic(auto)]
+
 ghost use Rattle.std.specs.Prelude.{◌≡◌, ◌≤◌, length};
 ghost use Rattle.model.specs.Delays.{delays_of};
 ghost use Rattle.model.specs.Cells.{size};

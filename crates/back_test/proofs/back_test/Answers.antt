@@ -4,7 +4,6 @@ use mathlib.Core.Path.{◌≡◌, refl, sym, ◌∙◌, ap}
 use mathlib.Core.List.{List}
 use Prim.Native.Nat.{ℕ, ◌≤◌}
 use native.Mathlib.Omega.{arith}
-use borrow.Author.Rules.{rules}
 use Rattle.model.specs.Records.{set_of}
 use Rattle.model.specs.Calls.{back_test_refusal, back_test_answer, refused_back_test}
 use Rattle.model.specs.CallsLaws.{settings_refusal}

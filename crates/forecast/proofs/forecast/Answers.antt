@@ -2,7 +2,6 @@
 -- Assumes nothing.
 use mathlib.Core.Bool.{false}
 use mathlib.Core.List.{[]}
-use borrow.Author.Rules.{rules}
 use Rattle.model.specs.Delays.{delays_of}
 use Rattle.model.specs.Questions.{of_forecast}
 use Rattle.model.specs.Calls.{forecast_refusal, forecast_answer, forecast_output}

@@ -1,7 +1,6 @@
 -- `forecast::forecast_into` meets its contract: `forecast_file` with the delays solved here.
 -- Assumes nothing.
 use mathlib.Core.Path.{refl}
-use borrow.Author.Rules.{rules}
 use Rattle.model.specs.Delays.{delays_of}
 use Rattle.model.specs.Questions.{of_forecast}
 use Rattle.model.specs.Calls.{forecast_refusal, forecast_answer, forecast_output}

@@ -1,7 +1,6 @@
 -- `forecast::forecast_with_delays` meets its contract: what `forecast_with_delays_into` writes,
 -- with zeros for leftovers. Assumes nothing.
 use mathlib.Core.Bool.{true}
-use borrow.Author.Rules.{rules}
 use Rattle.model.specs.Questions.{of_forecast_with}
 use Rattle.model.specs.Calls.{forecast_with_refusal, forecast_with_answer, forecast_with_output}
 use Rattle.delays.specs.Prepared.{asks_delays}

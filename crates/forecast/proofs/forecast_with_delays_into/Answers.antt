@@ -1,6 +1,5 @@
 -- `forecast::forecast_with_delays_into` meets its contract: `forecast_file` with the delays that
 -- are given. Assumes nothing.
-use borrow.Author.Rules.{rules}
 use Rattle.model.specs.Questions.{of_forecast_with}
 use Rattle.model.specs.Calls.{forecast_with_refusal, forecast_with_answer, forecast_with_output}
 use Rattle.delays.specs.Prepared.{asks_delays}

@@ -1,5 +1,4 @@
 -- `write_lent` meets its contract: each way out is one case of `Writing`. Assumes nothing.
-use borrow.Author.Rules.{rules}
 use native.Mathlib.Omega.{arith}
 use mathlib.Core.Path.{◌≡◌}
 use mathlib.Core.Bool.{true}

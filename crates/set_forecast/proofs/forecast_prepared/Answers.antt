@@ -1,7 +1,6 @@
 -- `forecast::set::forecast_prepared` meets its contract: the row bases, and then the cells. Assumes
 -- nothing.
 use mathlib.Core.Path.{refl, sym, ◌∙◌}
-use borrow.Author.Rules.{rules}
 use Rattle.model.specs.Calls.{no_set}
 use Rattle.model.specs.CallsLaws.{if_refused, if_accepted_lem}
 use Rattle.chain_ladder.specs.DevelopedLaws.{counts_ready}

@@ -1,7 +1,6 @@
 -- `forecast::set::forecast_set` meets its contract: `forecast_either` with the delays solved here.
 -- Assumes nothing.
 use mathlib.Core.Path.{refl}
-use borrow.Author.Rules.{rules}
 use Rattle.model.specs.Delays.{delays_of}
 use Rattle.model.specs.Questions.{of_forecast}
 use Rattle.delays.specs.Prepared.{asks_delays}

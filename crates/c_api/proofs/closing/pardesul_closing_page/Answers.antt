@@ -1,5 +1,4 @@
 -- `pardesul_closing_page` meets its contract: it is that of `closing_page`. Assumes nothing.
-use borrow.Author.Rules.{rules}
 use Rattle.c_api.proofs.closing.pardesul_closing_page.Goals as goal
 
 pub returns : goal.returns

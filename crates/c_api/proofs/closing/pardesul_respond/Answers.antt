@@ -1,5 +1,4 @@
 -- `pardesul_respond` meets its contract: it is that of `respond`. Assumes nothing.
-use borrow.Author.Rules.{rules}
 use Rattle.c_api.proofs.closing.pardesul_respond.Goals as goal
 
 pub returns : goal.returns

@@ -1,6 +1,5 @@
 -- `pardesul_claim_costs` meets its contract: a refusal stores nothing, and an accepted file stores
 -- the answer. Assumes nothing.
-use borrow.Author.Rules.{rules}
 use borrow.Author.Tests.{ne_eqb}
 use mathlib.Core.Path.{sym, ap, ◌∙◌}
 use Rattle.model.specs.declared.ClaimCostsAnswer.{ClaimCostsAnswer}

@@ -1,6 +1,5 @@
 -- `pardesul_forecast` meets its contract: it is that of `forecast_into`, with the line.
 -- Assumes nothing.
-use borrow.Author.Rules.{rules}
 use mathlib.Core.Path.{◌∙◌}
 use Rattle.forecast.specs.FileLaws.{forecast_line}
 use Rattle.c_api.proofs.forecasts.pardesul_forecast.Goals as goal

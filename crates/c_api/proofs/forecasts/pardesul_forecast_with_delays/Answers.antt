@@ -1,6 +1,5 @@
 -- `pardesul_forecast_with_delays` meets its contract: it is that of `forecast_with_delays_into`, with the line.
 -- Assumes nothing.
-use borrow.Author.Rules.{rules}
 use mathlib.Core.Path.{◌∙◌}
 use Rattle.forecast.specs.FileLaws.{forecast_with_line}
 use Rattle.c_api.proofs.forecasts.pardesul_forecast_with_delays.Goals as goal

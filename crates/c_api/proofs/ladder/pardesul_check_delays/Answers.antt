@@ -1,6 +1,5 @@
 -- `pardesul_check_delays` meets its contract: a refusal stores nothing, and accepted delays store
 -- the line. Assumes nothing.
-use borrow.Author.Rules.{rules}
 use mathlib.Core.Path.{sym, ap, ◌∙◌}
 use Rattle.model.specs.CallsLaws.{if_refused}
 use Rattle.model.specs.declared.CheckDelaysAnswer.{CheckDelaysAnswer}

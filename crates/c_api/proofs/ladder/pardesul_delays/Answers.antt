@@ -1,5 +1,4 @@
 -- `pardesul_delays` meets its contract: it is that of `delays_into`, with the line. Assumes nothing.
-use borrow.Author.Rules.{rules}
 use mathlib.Core.Path.{◌∙◌}
 use Rattle.delays.specs.PreparedLaws.{delays_line}
 use Rattle.c_api.proofs.ladder.pardesul_delays.Goals as goal

@@ -1,5 +1,4 @@
 -- `pardesul_shares` meets its contract: it is that of `shares_into`, with the line. Assumes nothing.
-use borrow.Author.Rules.{rules}
 use mathlib.Core.Path.{◌∙◌}
 use Rattle.chain_ladder.specs.SharesCall.{shares_line}
 use Rattle.c_api.proofs.ladder.pardesul_shares.Goals as goal

@@ -1,5 +1,4 @@
 -- `pardesul_write_set` meets its contract: it is that of `write_lent`. Assumes nothing.
-use borrow.Author.Rules.{rules}
 use Rattle.c_api.proofs.sets.pardesul_write_set.Goals as goal
 
 pub returns : goal.returns

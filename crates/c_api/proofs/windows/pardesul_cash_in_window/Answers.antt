@@ -1,7 +1,6 @@
 -- `pardesul_cash_in_window` meets its contract: a refusal stores nothing, and an accepted window
 -- stores its line and its amount. Assumes nothing.
 use mir.Syntax.{w64}
-use borrow.Author.Rules.{rules}
 use borrow.Author.Tests.{ne_eqb}
 use mathlib.Core.Path.{◌≡◌, sym, ap, ◌∙◌}
 use mathlib.Core.List.{List}

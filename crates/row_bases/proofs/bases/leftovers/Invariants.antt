@@ -1,10 +1,7 @@
-use mathlib.Core.Path.{◌≡◌, sym}
+use mathlib.Core.Path.{◌≡◌}
 use Prim.Native.Nat.{◌-◌, ◌≤◌}
-use native.Mathlib.Omega.{arith}
 use lib.IntN.{pos}
-use mir.Facts.{to_z-of_z}
 use Rattle.model.specs.Lists.{listed}
-use Rattle.model.specs.ListsLaws.{listed_none, listed_more}
 use Rattle.row_bases.specs.Bases.{left_at}
 use Rattle.row_bases.proofs.bases.leftovers.Given as goal
 

@@ -1,9 +1,8 @@
 -- `row_bases::bases::row_bases` meets its contract. The loop's invariant: the bases of the first k
 -- years are in range and in their places. Assumes nothing.
-use borrow.Author.Rules.{rules}
 use mathlib.Core.Path.{◌≡◌, sym, ◌∙◌}
-use mathlib.Core.Bool.{true, false≢true}
-use Prim.Native.Nat.{ℕ, ◌-◌, ◌*◌, ◌^◌, ◌≤◌}
+use mathlib.Core.Bool.{false≢true}
+use Prim.Native.Nat.{ℕ, ◌*◌, ◌^◌}
 use native.Mathlib.Omega.{arith}
 use borrow.Author.Tests.{le-leb, lt-leb}
 use lib.Dec.{leb}
@@ -11,7 +10,7 @@ use lib.IntN.{ℤ, pos, nat_abs}
 use mir.Syntax.{w64}
 use mir.Val.{SFits, to_z, of_z}
 use mir.Facts.{to_z-of_z}
-use Rattle.model.specs.Lists.{at, listed, every}
+use Rattle.model.specs.Lists.{at}
 use Rattle.model.specs.ListsLaws.{listed_none, listed_next, every_none, every_more, every_no}
 use Rattle.arithmetic.specs.Capped.{capped, within_is, over_is}
 use Rattle.rounding.specs.Words.{fits_abs}

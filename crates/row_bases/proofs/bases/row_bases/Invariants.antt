@@ -1,19 +1,10 @@
-use borrow.Author.Rules.{rules}
-use mathlib.Core.Path.{◌≡◌, sym, ◌∙◌}
-use mathlib.Core.Bool.{true, false≢true}
-use Prim.Native.Nat.{ℕ, ◌-◌, ◌*◌, ◌^◌, ◌≤◌}
-use native.Mathlib.Omega.{arith}
-use borrow.Author.Tests.{le-leb, lt-leb}
+use mathlib.Core.Path.{◌≡◌}
+use mathlib.Core.Bool.{true}
+use Prim.Native.Nat.{◌-◌, ◌*◌, ◌^◌, ◌≤◌}
 use lib.Dec.{leb}
-use lib.IntN.{ℤ, pos, nat_abs}
-use mir.Syntax.{w64}
-use mir.Val.{SFits, to_z, of_z}
-use mir.Facts.{to_z-of_z}
-use Rattle.model.specs.Lists.{at, listed, every}
-use Rattle.model.specs.ListsLaws.{listed_none, listed_next, every_none, every_more, every_no}
-use Rattle.arithmetic.specs.Capped.{capped, within_is, over_is}
-use Rattle.rounding.specs.Words.{fits_abs}
-use Rattle.row_bases.specs.Bases.{Sizes, base_at}
+use lib.IntN.{pos, nat_abs}
+use Rattle.model.specs.Lists.{listed, every}
+use Rattle.row_bases.specs.Bases.{base_at}
 use Rattle.row_bases.proofs.bases.row_bases.Given as goal
 
 abbrev pub invariant-loop-k : goal.invariant-loop-k

@@ -1,5 +1,4 @@
 -- `set_ok` meets its contract. Assumes nothing.
-use borrow.Author.Rules.{rules}
 use Rattle.model.specs.Questions.{q5_writer}
 use Rattle.model.specs.Tests.{refused, passed}
 use Rattle.set_file.proofs.questions.set_ok.Goals as goal

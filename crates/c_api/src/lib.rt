@@ -8,6 +8,6 @@ pub mod closing;
 pub mod costs;
 pub mod forecasts;
 pub mod journals;
-pub mod ladder;
 pub mod sets;
+pub mod shares;
 pub mod windows;

@@ -1,7 +1,7 @@
 -- `pardesul_shares` meets its contract: it is that of `shares_into`, with the line. Assumes nothing.
 use mathlib.Core.Path.{◌∙◌}
 use Rattle.chain_ladder.specs.SharesCall.{shares_line}
-use Rattle.c_api.proofs.ladder.pardesul_shares.Goals as goal
+use Rattle.c_api.proofs.shares.pardesul_shares.Goals as goal
 
 pub returns : goal.returns
 returns c =

@@ -1,7 +1,7 @@
 -- `pardesul_delays` meets its contract: it is that of `delays_into`, with the line. Assumes nothing.
 use mathlib.Core.Path.{◌∙◌}
 use Rattle.delays.specs.PreparedLaws.{delays_line}
-use Rattle.c_api.proofs.ladder.pardesul_delays.Goals as goal
+use Rattle.c_api.proofs.shares.pardesul_delays.Goals as goal
 
 pub returns : goal.returns
 returns c =

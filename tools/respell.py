@@ -7,7 +7,7 @@ usage: tools/respell.py [--collisions]      at the top of the repository, once
 A name is its own where a file of specs/ or proofs/ declares or binds it and no library does. A dash
 stays where it stands before an operator, as in nat_abs-+ℤ. Types, modules, and all that Rattle makes
 keep their names, and so do functions of src/, strings, and names for C. A clause of src/ and the
-words between backquotes in comments and pages follow; must-fail edits follow by bring_edits.py.
+words between backquotes in comments and pages follow; must-fail edits are brought over by hand.
 """
 
 import collections

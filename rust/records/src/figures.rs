@@ -12,8 +12,8 @@ const HEAD: &str = "\
 Lines of code (`src`), of definitions and laws (`specs`) and of proofs (`proofs`), and the number of
 must-fail edits; a test counts them again. Seconds are those of the check under the last kit whose
 `rt ci` told them, `rattle-kit-5b-plain`, which checked several crates at a time; a crate that is
-newer, or was cut since, has none or those of the whole. The parts of the gate are those of its last
-run before this was written.
+newer, or was cut since, has none or those of the whole. The parts of the gate are those of the last
+run whose times were kept, of that kit too.
 
 | crate | code | specs | proofs | must-fail edits | seconds |
 |---|---|---|---|---|---|

@@ -1,3 +1,5 @@
--- The laws of the rounding and of signed words, and the definitions that the contracts cite.
+-- The definitions that the contracts cite: a product in digits, a capped number, and numbers that
+-- stand evenly apart.
 pub mod Wide
 pub mod Capped
+pub mod Spaced

@@ -1,27 +1,16 @@
 // Rounded quotients of a product by a number, also past 64 bits (01, Rounding).
 #![tactic(auto)]
 
-ghost use Rattle.std.specs.Prelude.{◌≡◌, true, ◌+◌, ◌*◌, ◌/◌, ◌^◌, ◌<◌, ◌≤◌, min, pos, nat_abs, ◌*ℤ◌};
+ghost use Rattle.std.specs.Prelude.{◌≡◌, true, ◌+◌, ◌*◌, ◌/◌, ◌^◌, ◌<◌, ◌≤◌, pos, nat_abs, ◌*ℤ◌};
 ghost use Rattle.integers.specs.Parts.{◌⋖◌};
 ghost use Rattle.model.specs.Rounding.{r};
+ghost use Rattle.integers.specs.Sums.{sum};
+ghost use Rattle.model.specs.Lists.{at};
+ghost use Rattle.arithmetic.specs.Spaced.{Spaced};
 ghost use Rattle.arithmetic.specs.Wide.{Product};
 ghost use Rattle.arithmetic.specs.Capped.{capped};
 
-use rounding::{magnitude, round_div, round_signed};
-
-// A whole number, unless it lies past a cap.
-#[derive(Clone, Copy)]
-pub enum Capped {
-    Within(i64),
-    TooLarge,
-}
-
-// An exact quotient and its remainder.
-#[derive(Clone, Copy)]
-struct Quotient {
-    q: u64,
-    rem: u64,
-}
+use rounding::{Quotient, UNSIGNED_SCALE, magnitude, round_div, round_signed};
 
 // A product of two numbers below 2^48: top × 2^32 + mid × 2^16 + low.
 #[derive(Clone, Copy)]
@@ -34,14 +23,16 @@ struct Wide {
 // The base of a product's digits.
 const BASE: u64 = 65536;
 
-// S without a sign.
-const UNSIGNED_SCALE: u64 = rounding::SCALE as u64;
-
-// The smaller of two numbers.
-pub fn smaller(a: usize, b: usize) -> usize
-    ensures { result ≡ min a b }
+// The sum of n numbers that stand `step` places apart, from place `first` on.
+pub fn spaced_sum(xs: &[i64], first: usize, step: usize, n: usize) -> i64
+    requires { Spaced first step n xs.now }
+    ensures { result ≡ sum n (λ k. at xs.now (first + step * k)) }
 {
-    if a < b { a } else { b }
+    let mut out = 0i64;
+    for k in 0..n {
+        out += xs[first + step * k];
+    }
+    out
 }
 
 // a × x, digit by digit of x.
@@ -91,10 +82,7 @@ fn divide(p: Wide, d: u64) -> Quotient
 fn is_narrow(a: i64, x: i64) -> bool
     ensures { result ≡ true → nat_abs (a *ℤ x) ≤ 8 * 10 ^ 18 }
 {
-    if magnitude(a) > 8 * UNSIGNED_SCALE {
-        return false;
-    }
-    magnitude(x) <= UNSIGNED_SCALE
+    magnitude(a) <= 8 * UNSIGNED_SCALE && magnitude(x) <= UNSIGNED_SCALE
 }
 
 // The whole number nearest to a × x / d, where the product fits a word.
@@ -129,17 +117,17 @@ pub fn mul_div(a: i64, x: i64, d: i64) -> i64
 }
 
 // A number where its magnitude is at most cap.
-fn up_to(cap: u64, k: i64) -> Capped
+fn up_to(cap: u64, k: i64) -> Option<i64>
     ensures { result ≡ capped cap k }
 {
     if magnitude(k) > cap {
-        return Capped::TooLarge;
+        return None;
     }
-    Capped::Within(k)
+    Some(k)
 }
 
 // The whole number nearest to a × x / d, where its magnitude is at most cap.
-pub fn mul_div_capped(a: i64, x: i64, d: i64, cap: u64) -> Capped
+pub fn mul_div_capped(a: i64, x: i64, d: i64, cap: u64) -> Option<i64>
     requires { (nat_abs a < 2 ^ 48) × (nat_abs x < 2 ^ 48) × (pos 0 ⋖ d) × (nat_abs d < 2 ^ 48) × (cap < 2 ^ 48) }
     ensures { result ≡ capped cap (r (a *ℤ x) d) }
 {
@@ -148,7 +136,7 @@ pub fn mul_div_capped(a: i64, x: i64, d: i64, cap: u64) -> Capped
     }
     let p = wide_product(a, x);
     if p.top / BASE >= magnitude(d) {
-        return Capped::TooLarge;
+        return None;
     }
     up_to(cap, round_wide(a, x, p, d))
 }

@@ -1,8 +1,10 @@
 -- Laws of the back-test: of a set, from its forecast and its errors; of a file, its refusal
 -- question by question. Assumes nothing.
-use Rattle.std.specs.Prelude.{◌≡◌, List, ℕ, suc, ◌+◌, ◌-◌, ◌≤◌, ◌<◌, leb, ℤ}
+use Rattle.std.specs.Prelude.{◌≡◌, Result, List, ℕ, suc, ◌+◌, ◌-◌, ◌≤◌, ◌<◌, leb, ℤ}
 use Rattle.std.proofs.Common.{sym, ◌∙◌, arith}
 use Rattle.std.proofs.Math.Path.{ap}
+use Rattle.std.specs.Result.{IsErrAnd}
+use Rattle.std.proofs.lemmas.Result.{err_from_is_err_and}
 use Rattle.std.proofs.Math.Bool.{and-false}
 use borrow.Author.Tests.{le-leb, lt-leb}
 use Rattle.model.specs.Records.{cell, set_of}
@@ -15,6 +17,9 @@ use Rattle.model.specs.CallsLaws as CallsLaws
 use Rattle.model.specs.CallsLaws.{settings_refusal, if_refused}
 use Rattle.model.specs.Calls.{back_test_refusal, back_test_of, accepted_back_test, refused_back_test, back_test_answer}
 use Rattle.model.specs.declared.TriangleSet.{TriangleSet}
+use Rattle.model.specs.declared.BackTestAnswer.{BackTestAnswer}
+use Rattle.refusals.specs.Refusals.{number}
+use Rattle.refusals.specs.declared.Refusal.{Refusal}
 use Rattle.ladder.specs.Sums.{Small}
 use Rattle.chain_ladder.specs.Valid.{Amounts}
 use Rattle.cells.specs.declared.Cell.{Cell}
@@ -23,7 +28,11 @@ use Rattle.gaps.specs.Gaps.{Sizes, gap_from, gaps}
 use Rattle.gaps.specs.GapsLaws.{gaps_at}
 use Rattle.gaps.specs.ErrorsLaws.{same_by_cell, same_by_year, same_in_all}
 use Rattle.back_test.specs.SameCells.{SameSet, delays_same, refusal_same, rbns_same, ibnr_same, cut_same}
-use Rattle.back_test.specs.SetTest.{set_test}
+use Rattle.back_test.specs.SetTest.{answer_of, set_test}
+
+-- what `?` hands on
+pub handed_on : (r : Result BackTestAnswer Refusal) (e : Refusal) → IsErrAnd r (λ x. x ≡ e) → answer_of r ≡ refused_back_test (number e)
+handed_on r e h = let p = err_from_is_err_and r h in rw (p.1, p.2)
 
 -- ---- of a set
 module _ (m : ℕ) (s : TriangleSet) (c method basis : ℕ) where

@@ -1,17 +1,23 @@
--- Questions 17 and 18 of a transaction, by what the code asks and adds. Assumes nothing.
-use Prim.Native.Nat.{ℕ}
-use mathlib.Core.Path.{◌≡◌, sym, ◌∙◌}
-use mathlib.Core.Bool.{Bool, true, false}
-use mathlib.Core.List.{List}
-use borrow.Author.Tests.{eq-eqb, ne_eqb}
-use lib.IntN.{ℤ, pos}
-use lib.ListN.{get_or, set}
+-- The ways out of a transaction: its refusal number and the tally. Assumes nothing.
+use Rattle.std.specs.Prelude.{ℕ, ◌≡◌, refl, Bool, true, false, ◌&&◌, cond, Option, Some, None, leb, ℤ, pos, ◌+ℤ◌, get_or, set}
+use Rattle.std.proofs.Common.{sym, ◌∙◌, eq-eqb}
+use borrow.Author.Tests.{ne_eqb}
+use Rattle.model.specs.Lists.{at}
+use Rattle.model.specs.Records.{in_range}
 use Rattle.model.specs.Questions.{first_no, q1}
-use Rattle.model.specs.Journal.{booked_at, q16, q17, q18, of_booking, of_transaction, booked}
+use Rattle.model.specs.Journal.{booked_at, cell_after, q16, q17, q18, of_booking, of_transaction, booked}
 use Rattle.model.specs.Calls.{of_step, Stepped}
 use Rattle.model.specs.declared.JournalTally.{JournalTally}
 use Rattle.model.specs.declared.Transaction.{Transaction}
-use Rattle.booking.specs.Parts.{tally, Added}
+
+-- a value there, or none, by a test
+some_so : {A : Type 0} {v w : A} (b : Bool) → Some v ≡ cond b (Some w) None → (b ≡ true) × (v ≡ w)
+some_so true e = (refl, cc)
+some_so false e = absurd (cc)
+
+none_so : {A : Type 0} (w : A) (b : Bool) → None ≡ cond b (Some w) None → b ≡ false
+none_so w true e = absurd (cc)
+none_so w false e = refl
 
 module _ (t : JournalTally) (x : Transaction) where
   -- 17, 18, or the tally that the transaction leaves
@@ -27,50 +33,51 @@ module _ (t : JournalTally) (x : Transaction) where
   unfolding of_booking first_no
   yes after e g h = record { result = rw (e, g); tally = rw (e, g) h }
 
-  -- a report
+  -- what the code asks and writes of a report, p being the place of its cell
   module _ (q : x.kind ≡ 0) where
     pub report_17 : (get_or t.claims x.claim 0 ≡ 0 → ⊥) → Stepped (of_booking t x) t x t 17
     unfolding q17
     report_17 n = no_17 (rw q (ne_eqb _ 0 n))
 
-    module _ (cells' : List ℤ) (last' : ℕ) (r : Bool) (a : Added t.counts t.last (booked_at x) 0 x.calendar (pos 1) cells' last' r) (o : get_or t.claims x.claim 0 ≡ 0) where
+    module _ (o : get_or t.claims x.claim 0 ≡ 0) (p : ℕ) (here : p ≡ booked_at x) (r : Option ℤ)
+        (so : r ≡ cond (leb t.last x.calendar && in_range x.kind (at t.counts p +ℤ pos 1)) (Some (at t.counts p +ℤ pos 1)) None) where
       owned : q17 t x ≡ true
       unfolding q17
       owned = rw q (eq-eqb _ 0 o)
 
-      timely : r ≡ q18 t x
+      asked : r ≡ cond (q18 t x) (Some (cell_after t x)) None
       unfolding q18
-      timely = rw q a.result
+      asked = rw (← here, q) (rw q at so)
 
-      pub report_18 : r ≡ false → Stepped (of_booking t x) t x (tally t.claims cells' t.paid last') 18
-      report_18 e = rw (a.cells_are, a.last_is, e) (no_18 owned (sym timely ∙ e))
+      pub report_18 : r ≡ None → Stepped (of_booking t x) t x t 18
+      report_18 e = no_18 owned (none_so _ _ (sym e ∙ asked))
 
-      pub report_yes : r ≡ true → Stepped (of_booking t x) t x (tally (set t.claims x.claim x.accident) cells' t.paid last') 0
+      pub report : (cell : ℤ) → r ≡ Some cell → Stepped (of_booking t x) t x (record { claims = set t.claims x.claim x.accident; counts = set t.counts p cell; paid = t.paid; last = x.calendar }) 0
       unfolding booked
-      report_yes e = yes _ owned (sym timely ∙ e) (rw (a.cells_are, a.last_is, e, q))
+      report cell e = let s = some_so _ (sym e ∙ asked) in yes _ owned s.0 (rw (here, s.1, q))
 
-  -- a payment
+  -- and of a payment
   module _ (q : x.kind ≡ 1) where
     pub payment_17 : (get_or t.claims x.claim 0 ≡ x.accident → ⊥) → Stepped (of_booking t x) t x t 17
     unfolding q17
     payment_17 n = no_17 (rw q (ne_eqb _ x.accident n))
 
-    module _ (cells' : List ℤ) (last' : ℕ) (r : Bool) (a : Added t.paid t.last (booked_at x) 1 x.calendar x.amount cells' last' r)
-        (o : get_or t.claims x.claim 0 ≡ x.accident) where
+    module _ (o : get_or t.claims x.claim 0 ≡ x.accident) (p : ℕ) (here : p ≡ booked_at x) (r : Option ℤ)
+        (so : r ≡ cond (leb t.last x.calendar && in_range x.kind (at t.paid p +ℤ x.amount)) (Some (at t.paid p +ℤ x.amount)) None) where
       owned_paid : q17 t x ≡ true
       unfolding q17
       owned_paid = rw q (eq-eqb _ x.accident o)
 
-      timely_paid : r ≡ q18 t x
+      asked_paid : r ≡ cond (q18 t x) (Some (cell_after t x)) None
       unfolding q18
-      timely_paid = rw q a.result
+      asked_paid = rw (← here, q) (rw q at so)
 
-      pub payment_18 : r ≡ false → Stepped (of_booking t x) t x (tally t.claims t.counts cells' last') 18
-      payment_18 e = rw (a.cells_are, a.last_is, e) (no_18 owned_paid (sym timely_paid ∙ e))
+      pub payment_18 : r ≡ None → Stepped (of_booking t x) t x t 18
+      payment_18 e = no_18 owned_paid (none_so _ _ (sym e ∙ asked_paid))
 
-      pub payment_yes : r ≡ true → Stepped (of_booking t x) t x (tally t.claims t.counts cells' last') 0
+      pub payment : (cell : ℤ) → r ≡ Some cell → Stepped (of_booking t x) t x (record { claims = t.claims; counts = t.counts; paid = set t.paid p cell; last = x.calendar }) 0
       unfolding booked
-      payment_yes e = yes _ owned_paid (sym timely_paid ∙ e) (rw (a.cells_are, a.last_is, e, q))
+      payment cell e = let s = some_so _ (sym e ∙ asked_paid) in yes _ owned_paid s.0 (rw (here, s.1, q))
 
   -- ---- questions 1 and 16
   module _ (m : ℕ) where

@@ -9,7 +9,7 @@ use Rattle.model.specs.QuestionsLaws.{within_so}
 use Rattle.model.specs.Lengths.{size_so}
 use Rattle.model.specs.declared.Transaction.{Transaction}
 use Rattle.model.specs.Journal.{q16}
-use Rattle.booking.specs.Parts.{Good}
+use Rattle.booking.specs.Good.{Good}
 
 -- a kind that is not 0
 pub one_of : (k : ℕ) → k < 2 → (k ≡ 0 → ⊥) → k ≡ 1
@@ -49,4 +49,18 @@ good m x e g =
       calendar_is = l;
       least = a.0;
       most = ≤ℤ_trans a.1 (most_ten (eqb x.kind 0));
+    }
+
+-- m does not matter
+pub good_20 : (m : ℕ) (x : Transaction) → Good m x → Good 20 x
+good_20 m x g =
+    record {
+      few = omega arith;
+      claim_is = g.claim_is;
+      kind_is = g.kind_is;
+      year_is = g.year_is;
+      order = g.order;
+      calendar_is = omega (arith, g.few, g.calendar_is);
+      least = g.least;
+      most = g.most;
     }

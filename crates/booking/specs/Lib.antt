@@ -1,3 +1,3 @@
--- A tally by its parts, and a transaction whose fields are good.
-pub mod Parts
+-- A transaction whose fields are good.
+pub mod Good
 pub mod Fields

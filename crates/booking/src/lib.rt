@@ -1,142 +1,100 @@
-// One transaction of a claims journal (02, Job 3): its questions, and the parts of a tally brought up
-// to date.
+// One transaction of a claims journal (02, Job 3): its questions, and the tally brought up to date.
 #![tactic(auto)]
 
-ghost use Rattle.std.specs.Prelude.{◌≡◌, cond, ◌^◌, ◌<◌, eqb, pos, ◌+ℤ◌};
-ghost use Rattle.integers.specs.Parts.{◌⩽◌};
+ghost use Rattle.std.specs.Prelude.{◌≡◌, Some, None, cond, ◌&&◌, ◌^◌, ◌<◌, eqb, leb, pos, ◌+ℤ◌};
 ghost use Rattle.model.specs.Records.{in_range};
 ghost use Rattle.model.specs.Questions.{within};
-ghost use Rattle.model.specs.Journal.{q16, of_booking};
+ghost use Rattle.model.specs.Journal.{booked_at, q16, of_booking};
 ghost use Rattle.model.specs.Calls.{of_step, Stepped};
-ghost use Rattle.booking.specs.Parts.{tally, Good, Added};
+ghost use Rattle.refusals.specs.Refusals.{refusal_number};
+ghost use Rattle.booking.specs.Good.{Good};
 
-use model::Transaction;
+use model::{JournalTally, Transaction};
+use refusals::Refusal;
 
-// Whether an amount is 0 in a report, 0 to 10^10 in a payment.
+// Whether an amount is 0 in a report, 0 to 10^10 in a payment; the kind is any number yet.
 fn amount_ok(kind: usize, amount: i64) -> bool
     ensures { result ≡ within (pos 0) (pos (cond (eqb kind 0) 0 (10 ^ 10))) amount }
 {
-    if kind == 0 {
-        return (0 <= amount) & (amount <= 0);
-    }
-    (0 <= amount) & (amount <= 10000000000)
+    let most = if kind == 0 { 0 } else { 10_000_000_000 };
+    (0..=most).contains(&amount)
 }
 
 // Question 16 of a transaction.
+#[tactic(auto, unfolding(model::specs::Journal::q16))]
 fn fields_ok(m: usize, x: Transaction) -> bool
     ensures { result ≡ q16 m x }
 {
-    (x.claim <= 4095)
-        & (x.kind <= 1)
-        & (1 <= x.accident)
-        & (x.accident <= m)
-        & (x.accident <= x.calendar)
-        & (x.calendar <= m)
-        & (x.spare == 0)
-        & amount_ok(x.kind, x.amount)
+    x.claim <= 4095
+        && x.kind <= 1
+        && 1 <= x.accident
+        && x.accident <= m
+        && x.accident <= x.calendar
+        && x.calendar <= m
+        && x.spare == 0
+        && amount_ok(x.kind, x.amount)
 }
 
-// Whether a cell stays in its range with an amount added. Any cell may be handed in: the sum is
-// made only where it cannot pass 64 bits.
-fn has_room(kind: usize, cell: i64, amount: i64) -> bool
-    requires { (pos 0 ⩽ amount) × (amount ⩽ pos (10 ^ 10)) × (kind < 2) }
-    ensures { result ≡ in_range kind (cell +ℤ amount) }
+// The place of a transaction's cell.
+fn place(x: Transaction) -> usize
+    requires { Good 20 x }
+    ensures value { result ≡ booked_at x }
+    ensures below { result < 400 }
 {
-    if cell < -10000000000 {
-        return false;
-    }
-    if 10000000000 < cell {
-        return false;
-    }
-    records::questions::in_range(kind, cell + amount)
+    20 * (x.accident - 1) + (x.calendar - x.accident)
 }
 
-// Question 18; where it gets a yes, the amount goes to the cell, and the calendar year is the last.
-fn add(
-    cells: &mut [i64; 400],
-    last: &mut usize,
-    place: usize,
-    kind: usize,
-    calendar: usize,
-    amount: i64,
-) -> bool
-    requires { (pos 0 ⩽ amount) × (amount ⩽ pos (10 ^ 10)) × (kind < 2) × (place < 400) }
-    ensures { Added cells.old last.old place kind calendar amount cells.new last.new result }
+// Question 18: the transaction's cell with an amount added, where the calendar year is not below
+// the last and the cell stays in its range.
+fn added(last: usize, x: Transaction, cell: i64, amount: i64) -> Option<i64>
+    ensures { result ≡ cond (leb last x.calendar && in_range x.kind (cell +ℤ amount)) (Some (cell +ℤ amount)) None }
 {
-    if calendar < *last {
-        return false;
+    if x.calendar < last {
+        return None;
     }
-    let cell = cells[place];
-    if !has_room(kind, cell, amount) {
-        return false;
-    }
-    cells[place] = cell + amount;
-    *last = calendar;
-    true
+    let sum = cell.checked_add(amount)?;
+    records::questions::in_range(x.kind, sum).then_some(sum)
 }
 
-// A byte as a number: what is read of a lent list has a range once it is a parameter.
-fn wide(x: u8) -> usize
-    ensures { result ≡ x }
+// Questions 17 and 18 of a transaction whose fields are good, and the tally afterwards.
+fn book(t: &mut JournalTally, x: Transaction) -> Result<(), Refusal>
+    requires { Good 20 x }
+    ensures { Stepped (of_booking t.old x) t.old x t.new (refusal_number result) }
 {
-    x as usize
-}
-
-// Questions 17 and 18 of a transaction whose fields are good, and the tally's parts afterwards.
-fn book(
-    claims: &mut [u8; 4096],
-    counts: &mut [i64; 400],
-    paid: &mut [i64; 400],
-    last: &mut usize,
-    m: usize,
-    x: Transaction,
-) -> u64
-    requires { Good m x }
-    ensures { Stepped (of_booking (tally claims.old counts.old paid.old last.old) x)
-        (tally claims.old counts.old paid.old last.old) x
-        (tally claims.new counts.new paid.new last.new) result }
-{
-    let claim = x.claim;
-    let owner = wide(claims[claim]);
-    let place = 20 * (x.accident - 1) + (x.calendar - x.accident);
+    let owner = usize::from(t.claims[x.claim]);
+    let place = place(x);
     if x.kind == 0 {
         if owner != 0 {
-            return 17;
+            return Err(Refusal::ClaimOrder);
         }
-        if !add(counts, last, place, 0, x.calendar, 1) {
-            return 18;
+        let Some(cell) = added(t.last, x, t.counts[place], 1) else {
+            return Err(Refusal::Booking);
+        };
+        t.claims[x.claim] = x.accident as u8;
+        t.counts[place] = cell;
+    } else {
+        if owner != x.accident {
+            return Err(Refusal::ClaimOrder);
         }
-        claims[claim] = x.accident as u8;
-        return 0;
+        let Some(cell) = added(t.last, x, t.paid[place], x.amount) else {
+            return Err(Refusal::Booking);
+        };
+        t.paid[place] = cell;
     }
-    if owner != x.accident {
-        return 17;
-    }
-    if !add(paid, last, place, 1, x.calendar, x.amount) {
-        return 18;
-    }
-    0
+    t.last = x.calendar;
+    Ok(())
 }
 
-// One transaction over a tally's parts: its refusal, with nothing changed, or 0, with the parts
-// brought up to date.
-pub fn enter(
-    claims: &mut [u8; 4096],
-    counts: &mut [i64; 400],
-    paid: &mut [i64; 400],
-    last: &mut usize,
-    m: usize,
-    x: Transaction,
-) -> u64
-    ensures { Stepped (of_step m (tally claims.old counts.old paid.old last.old) x)
-        (tally claims.old counts.old paid.old last.old) x
-        (tally claims.new counts.new paid.new last.new) result }
+// One transaction over a tally: its refusal, with nothing changed, or the tally brought up to date.
+#[tactic(auto, using(crate::specs::Fields::good, crate::specs::Fields::good_20), unfolding(model::specs::Questions::first_no, model::specs::Journal::of_transaction))]
+pub fn enter(t: &mut JournalTally, m: usize, x: Transaction) -> Result<(), Refusal>
+    ensures { Stepped (of_step m t.old x) t.old x t.new (refusal_number result) }
 {
     if !records::questions::q1(m) {
-        return 1;
+        return Err(Refusal::Size);
     }
     if !fields_ok(m, x) {
-        return 16;
+        return Err(Refusal::JournalForm);
     }
-    book(claims, counts, paid, last, m, x)
+    book(t, x)
 }

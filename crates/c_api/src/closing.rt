@@ -24,5 +24,5 @@ pub extern "C" fn pardesul_closing_page(
     ensures value { result ≡ page_refusal m file.now method basis (length page.old) }
     ensures page_after { page.new ≡ page_output m file.now method basis page.old }
 {
-    page::closing_page(file, m, method, basis, page)
+    refusals::refusal_number(page::closing_page(file, m, method, basis, page))
 }

@@ -27,11 +27,11 @@ pub extern "C" fn pardesul_claim_costs(
     if refusal != 0 {
         return refusal;
     }
+    // by a variable: the prover covers no list stored straight from field to field
     let list = answer.costs.factors;
     *factors = list;
     *mu = answer.costs.mu;
     *line = answer.line;
-    let inflations = answer.costs.inflations;
-    c_forms::split(inflations, kinds, ratios);
+    c_forms::split(answer.costs.inflations, kinds, ratios);
     0
 }

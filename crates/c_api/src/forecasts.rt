@@ -5,8 +5,11 @@ ghost use Rattle.model.specs.PaidReserve.{NearReserves};
 ghost use Rattle.year_tally.specs.TallyAdd.{tally_add};
 ghost use Rattle.model.specs.Calls.{if_accepted, forecast_answer, forecast_output, forecast_with_answer, forecast_with_output};
 
+use refusals::refusal_number;
+
 // The forecast: the cells go to the front of the output, the leftover of year i to place i - 1.
 #[unsafe(no_mangle)]
+#[tactic(auto, using(forecast::specs::FileLaws::forecast_line))]
 pub extern "C" fn pardesul_forecast(
     file: &[u8],
     m: usize,
@@ -22,13 +25,14 @@ pub extern "C" fn pardesul_forecast(
     ensures leftovers_after { leftovers.new ≡ if_accepted result (forecast_answer m file.now method basis (length out.old)).leftovers leftovers.old }
     ensures near_reserves { result ≡ 0 → method ≡ 0 → basis ≡ 1 → NearReserves m (set_of m file.now).paid out.new }
 {
-    let refusal = forecast::forecast_into(file, m, method, basis, leftovers, out);
-    triangles::store_line(file, refusal, line);
-    refusal
+    let answer = forecast::forecast_into(file, m, method, basis, leftovers, out);
+    triangles::store_line(file, answer, line);
+    refusal_number(answer)
 }
 
 // The forecast by delays that are given.
 #[unsafe(no_mangle)]
+#[tactic(auto, using(forecast::specs::FileLaws::forecast_with_line))]
 pub extern "C" fn pardesul_forecast_with_delays(
     file: &[u8],
     m: usize,
@@ -45,11 +49,11 @@ pub extern "C" fn pardesul_forecast_with_delays(
     ensures leftovers_after { leftovers.new ≡ if_accepted result (forecast_with_answer m file.now method basis delays.now (length out.old)).leftovers leftovers.old }
     ensures near_reserves { result ≡ 0 → method ≡ 0 → basis ≡ 1 → NearReserves m (set_of m file.now).paid out.new }
 {
-    let refusal = forecast::forecast_with_delays_into(
+    let answer = forecast::forecast_with_delays_into(
         file, m, method, basis, delays, leftovers, out,
     );
-    triangles::store_line(file, refusal, line);
-    refusal
+    triangles::store_line(file, answer, line);
+    refusal_number(answer)
 }
 
 // The calendar-year tally with one cell added.
@@ -69,6 +73,7 @@ pub extern "C" fn pardesul_tally_add(
         ibnr: *ibnr,
     };
     let next = tally.add(year, reported, unreported);
+    // by a variable: the prover covers no list stored straight from field to field
     let sums = next.rbns;
     *rbns = sums;
     let sums = next.ibnr;

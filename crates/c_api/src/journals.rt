@@ -6,5 +6,5 @@ ghost use Rattle.model.specs.Calls.{Replayed};
 pub extern "C" fn pardesul_replay(journal: &[u8], m: usize, tally: &mut model::JournalTally) -> u64
     ensures { Replayed m journal.now tally.old tally.new result }
 {
-    journal::replay(journal, m, tally)
+    refusals::refusal_number(journal::replay(journal, m, tally))
 }

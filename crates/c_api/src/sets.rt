@@ -2,6 +2,8 @@
 ghost use Rattle.std.specs.Prelude.{◌≡◌, cond, length};
 ghost use Rattle.model.specs.Calls.{if_accepted, read_answer, write_refusal, write_output};
 
+use refusals::refusal_number;
+
 // The reader: the set of a file goes to line, counts, paid and incurred, and has_incurred becomes 1
 // where incurred is there, else 0.
 #[unsafe(no_mangle)]
@@ -22,7 +24,7 @@ pub extern "C" fn pardesul_read_set(
     ensures incurred_after { incurred.new ≡ if_accepted result (read_answer m file.now).set.incurred incurred.old }
 {
     let mut set = [0i64; 1200];
-    let refusal = triangles::read_cells(file, m, &mut set);
+    let refusal = refusal_number(triangles::read_cells(file, m, &mut set));
     if refusal != 0 {
         return refusal;
     }
@@ -48,5 +50,6 @@ pub extern "C" fn pardesul_write_set<'a>(
     ensures value { result ≡ write_refusal m line has_incurred counts.now paid.now incurred.now (length out.old) }
     ensures out_after { out.new ≡ write_output m line has_incurred counts.now paid.now incurred.now out.old }
 {
-    set_file::write_lent(m, line, has_incurred, counts, paid, incurred, out)
+    let answer = set_file::write_lent(m, line, has_incurred, counts, paid, incurred, out);
+    refusal_number(answer)
 }

@@ -2,9 +2,12 @@
 ghost use Rattle.std.specs.Prelude.{◌≡◌};
 ghost use Rattle.model.specs.Calls.{if_accepted, shares_answer, delays_answer, check_delays_answer};
 
+use refusals::refusal_number;
+
 // Shares and ultimates: b and N of counts; q, g and U of paid. Delay j stands at place j, year i at
 // place i - 1.
 #[unsafe(no_mangle)]
+#[tactic(auto, using(chain_ladder::specs::SharesCall::shares_line))]
 pub extern "C" fn pardesul_shares(
     file: &[u8],
     m: usize,
@@ -23,21 +26,22 @@ pub extern "C" fn pardesul_shares(
     ensures g_after { g.new ≡ if_accepted result (shares_answer m file.now).g g.old }
     ensures u_after { u.new ≡ if_accepted result (shares_answer m file.now).u u.old }
 {
-    let refusal = chain_ladder::shares_into(file, m, b, n, q, g, u);
-    triangles::store_line(file, refusal, line);
-    refusal
+    let answer = chain_ladder::shares_into(file, m, b, n, q, g, u);
+    triangles::store_line(file, answer, line);
+    refusal_number(answer)
 }
 
 // The delays, p(l) at place l.
 #[unsafe(no_mangle)]
+#[tactic(auto, using(delays::specs::PreparedLaws::delays_line))]
 pub extern "C" fn pardesul_delays(file: &[u8], m: usize, line: &mut u64, p: &mut [i64; 20]) -> u64
     ensures value { result ≡ (delays_answer m file.now).refusal }
     ensures line_after { line.new ≡ if_accepted result (delays_answer m file.now).line line.old }
     ensures p_after { p.new ≡ if_accepted result (delays_answer m file.now).p p.old }
 {
-    let refusal = delays::delays_into(file, m, p);
-    triangles::store_line(file, refusal, line);
-    refusal
+    let answer = delays::delays_into(file, m, p);
+    triangles::store_line(file, answer, line);
+    refusal_number(answer)
 }
 
 // Whether given delays fit the file.

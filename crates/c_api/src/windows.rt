@@ -35,8 +35,7 @@ pub extern "C" fn pardesul_cash_in_window<'a>(
     if refusal != 0 {
         return refusal;
     }
-    let due = answer.amount;
-    *amount = due;
+    *amount = answer.amount;
     *line = answer.line;
     0
 }

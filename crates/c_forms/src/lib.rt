@@ -1,5 +1,5 @@
-// Forms of C, where a value of Rattle's has none: an inflation as a kind and a ratio, a date as three
-// numbers.
+// Forms of C, where a value of Rattle's has none: an inflation as a kind and a ratio, a date as
+// three numbers.
 #![tactic(auto)]
 
 ghost use Rattle.std.specs.Prelude.{◌≡◌};
@@ -8,7 +8,8 @@ ghost use Rattle.c_forms.specs.Dates.{date_in};
 
 use model::{Date, Inflation, YearInflation};
 
-// 0 the base year, 1 no payments yet, 2 a ratio.
+// The C interface's number of a kind: 0 the base year, 1 no payments yet, 2 a ratio.
+#[tactic(auto, unfolding(crate::specs::Inflations::kind_of))]
 fn kind(value: Inflation) -> u8
     ensures { result ≡ kind_of value }
 {
@@ -20,12 +21,12 @@ fn kind(value: Inflation) -> u8
 }
 
 // The ratio, 0 where there is none.
+#[tactic(auto, unfolding(crate::specs::Inflations::ratio_of))]
 fn ratio(value: Inflation) -> f64
     ensures { result ≡ ratio_of value }
 {
     match value {
-        Inflation::BaseYear => 0.0,
-        Inflation::NoPaymentsYet => 0.0,
+        Inflation::BaseYear | Inflation::NoPaymentsYet => 0.0,
         Inflation::Ratio(x) => x,
     }
 }
@@ -35,25 +36,14 @@ pub fn split(inflations: [YearInflation; 20], kinds: &mut [u8; 20], ratios: &mut
     ensures kinds_after { kinds.new ≡ kinds_of inflations }
     ensures ratios_after { ratios.new ≡ ratios_of inflations }
 {
-    *kinds = [0u8; 20];
-    *ratios = [0.0; 20];
-    let mut k = 0;
-    while k < 20 {
-        let year = inflations[k];
-        let value = year.value;
-        kinds[k] = kind(value);
-        ratios[k] = ratio(value);
-        k += 1;
-    }
+    *kinds = inflations.map(|year| kind(year.value));
+    *ratios = inflations.map(|year| ratio(year.value));
 }
 
-// The date of three numbers: year, month and day.
+// The date of three numbers: year, month and day. No `From`: neither type is this crate's.
 pub fn date(numbers: &[u64; 3]) -> Date
     ensures { result ≡ date_in numbers.now }
 {
-    Date {
-        year: numbers[0],
-        month: numbers[1],
-        day: numbers[2],
-    }
+    let [year, month, day] = *numbers;
+    Date { year, month, day }
 }

@@ -1,7 +1,7 @@
 -- An input cut at 10,096 bytes gets the answer of the whole input: the first line is at most 15
 -- bytes, no set is longer than 10,080, and a longer file is refused whatever follows. Assumes
 -- nothing.
-use Rattle.std.specs.Prelude.{◌≡◌, Bool, true, false, cond, List, [], ◌∷◌, ℕ, zero, suc, ◌+◌, ◌-◌, ◌*◌, ◌≤◌, ◌<◌, leb, take, drop}
+use Rattle.std.specs.Prelude.{◌≡◌, Bool, true, false, cond, List, [], ◌∷◌, ℕ, zero, suc, ◌+◌, ◌-◌, ◌*◌, ◌≤◌, ◌<◌, leb, take, drop, Option, Some, None}
 use Rattle.std.proofs.Math.Path.{refl, sym, ap}
 use Rattle.std.proofs.Common.{◌∙◌, zero-add, suc-add, mul-le-mul, get_or-take, leb-true, ne_eqb}
 use native.Mathlib.Omega.{arith, not-le}
@@ -14,8 +14,7 @@ use Rattle.model.specs.Questions.{q1, q2, of_file, first_no}
 use Rattle.model.specs.Calendar.{front, run_at, first, second, third, first_line, refusal_text}
 use Rattle.model.specs.Calls.{call_refusal, forecast_refusal, file_text, closing_of, closing_text}
 use Rattle.model.specs.declared.Run.{Run}
-use Rattle.model.specs.declared.Run.TheVariants.{Number, Wrong}
-use Rattle.model.specs.declared.FirstLine.TheVariants.{Asked}
+use Rattle.model.specs.declared.Asked.{Asked}
 use Rattle.first_line.specs.Runs.{front_take, run_long, found}
 
 drop_take : (a k : ℕ) (s : List ℕ) → drop a (take (a + k) s) ≡ take k (drop a s)
@@ -44,24 +43,24 @@ run_cut n s a end h =
     ]
 
 -- a run's end is at most five bytes on
-run_end : (s : List ℕ) (a end v p : ℕ) → run_at s a end ≡ Number v p → p ≤ a + 5
-run_end s a end v p e = let f = found s a end v p e in omega (arith, f.few, f.next)
+run_end : (s : List ℕ) (a end : ℕ) (r : Run) → run_at s a end ≡ Some r → r.next ≤ a + 5
+run_end s a end r e = let f = found s a end r e in omega (arith, f.few, f.next)
 
 module _ (n : ℕ) (s : List ℕ) (far : 15 ≤ n) where
   third_cut : (m method q : ℕ) → q ≤ 10 → third m method (run_at (take n s) q 10) ≡ third m method (run_at s q 10)
   third_cut m method q h = rw (run_cut n s q 10 (omega arith))
 
-  second_cut : (m : ℕ) (r : Run) (p : ℕ) → p ≤ 5 → run_at s p 32 ≡ r → second (take n s) m r ≡ second s m r
+  second_cut : (m : ℕ) (r : Option Run) (p : ℕ) → p ≤ 5 → run_at s p 32 ≡ r → second (take n s) m r ≡ second s m r
   unfolding second
-  second_cut m Wrong p h e = refl
-  second_cut m (Number method q) p h e = third_cut m method q (omega (arith, run_end s p 32 method q e))
+  second_cut m None p h e = refl
+  second_cut m (Some r) p h e = third_cut m r.number r.next (omega (arith, run_end s p 32 r e))
 
-  first_cut : (r : Run) → run_at s 0 32 ≡ r → first (take n s) r ≡ first s r
+  first_cut : (r : Option Run) → run_at s 0 32 ≡ r → first (take n s) r ≡ first s r
   unfolding first
-  first_cut Wrong e = refl
-  first_cut (Number m p) e =
-      let h = run_end s 0 32 m p e in
-      ap (second (take n s) m) (run_cut n s p 32 (omega arith)) ∙ second_cut m (run_at s p 32) p (omega arith) refl
+  first_cut None e = refl
+  first_cut (Some r) e =
+      let h = run_end s 0 32 r e in
+      ap (second (take n s) r.number) (run_cut n s r.next 32 (omega arith)) ∙ second_cut r.number (run_at s r.next 32) r.next (omega arith) refl
 
   pub line_cut : first_line (take n s) ≡ first_line s
   unfolding first_line
@@ -82,39 +81,39 @@ unfolding forecast_refusal call_refusal of_file first_no
 too_long m f method basis room true e h = rw (e, no_length m f e h)
 too_long m f method basis room false e h = rw e
 
-refused_long : (s : List ℕ) (m method basis a : ℕ) (t : Bool) → q1 m ≡ t → 10080 < length (drop a s) → closing_of s (Asked m method basis a) ≡ refusal_text (cond t 2 1)
+refused_long : (s : List ℕ) (a : Asked) (t : Bool) → q1 a.m ≡ t → 10080 < length (drop a.start s) → closing_of s (Some a) ≡ refusal_text (cond t 2 1)
 unfolding closing_of file_text
-refused_long s m method basis a true e h = rw (too_long m (drop a s) method basis 1560 true e h)
-refused_long s m method basis a false e h = rw (too_long m (drop a s) method basis 1560 false e h)
+refused_long s a true e h = rw (too_long a.m (drop a.start s) a.method a.basis 1560 true e h)
+refused_long s a false e h = rw (too_long a.m (drop a.start s) a.method a.basis 1560 false e h)
 
 -- ---- the answer: 10,096 bytes are a first line, the longest set and one byte more
 
 module _ (n : ℕ) (s : List ℕ) (far : 10096 ≤ n) where
-  file_cut : (m method basis a : ℕ) → a ≤ 15 → closing_of (take n s) (Asked m method basis a) ≡ closing_of s (Asked m method basis a)
+  file_cut : (a : Asked) → a.start ≤ 15 → closing_of (take n s) (Some a) ≡ closing_of s (Some a)
   unfolding closing_of
-  file_cut m method basis a h =
-      let e = after_cut n a s (omega arith) in
-      elim (dec_lt (n - a) (length (drop a s))) [
+  file_cut a h =
+      let e = after_cut n a.start s (omega arith) in
+      elim (dec_lt (n - a.start) (length (drop a.start s))) [
         | yes l ↦
-            let k = ap length e ∙ length-take (n - a) (drop a s) in
-            refused_long (take n s) m method basis a (q1 m) refl (omega arith) ∙ sym (refused_long s m method basis a (q1 m) refl (omega arith))
-        | no l ↦ rw (e, take_all (n - a) (drop a s) (omega (arith, not-le (suc (n - a)) (length (drop a s)) l)))
+            let k = ap length e ∙ length-take (n - a.start) (drop a.start s) in
+            refused_long (take n s) a (q1 a.m) refl (omega arith) ∙ sym (refused_long s a (q1 a.m) refl (omega arith))
+        | no l ↦ rw (e, take_all (n - a.start) (drop a.start s) (omega (arith, not-le (suc (n - a.start)) (length (drop a.start s)) l)))
       ]
 
-  third_same : (m method q : ℕ) (r : Run) → q ≤ 10 → run_at s q 10 ≡ r → closing_of (take n s) (third m method r) ≡ closing_of s (third m method r)
+  third_same : (m method q : ℕ) (r : Option Run) → q ≤ 10 → run_at s q 10 ≡ r → closing_of (take n s) (third m method r) ≡ closing_of s (third m method r)
   unfolding third closing_of
-  third_same m method q Wrong h e = refl
-  third_same m method q (Number basis a) h e = file_cut m method basis a (omega (arith, run_end s q 10 basis a e))
+  third_same m method q None h e = refl
+  third_same m method q (Some r) h e = file_cut _ (omega (arith, run_end s q 10 r e))
 
-  second_same : (m p : ℕ) (r : Run) → p ≤ 5 → run_at s p 32 ≡ r → closing_of (take n s) (second s m r) ≡ closing_of s (second s m r)
+  second_same : (m p : ℕ) (r : Option Run) → p ≤ 5 → run_at s p 32 ≡ r → closing_of (take n s) (second s m r) ≡ closing_of s (second s m r)
   unfolding second closing_of
-  second_same m p Wrong h e = refl
-  second_same m p (Number method q) h e = third_same m method q (run_at s q 10) (omega (arith, run_end s p 32 method q e)) refl
+  second_same m p None h e = refl
+  second_same m p (Some r) h e = third_same m r.number r.next (run_at s r.next 10) (omega (arith, run_end s p 32 r e)) refl
 
-  first_same : (r : Run) → run_at s 0 32 ≡ r → closing_of (take n s) (first s r) ≡ closing_of s (first s r)
+  first_same : (r : Option Run) → run_at s 0 32 ≡ r → closing_of (take n s) (first s r) ≡ closing_of s (first s r)
   unfolding first closing_of
-  first_same Wrong e = refl
-  first_same (Number m p) e = second_same m p (run_at s p 32) (omega (arith, run_end s 0 32 m p e)) refl
+  first_same None e = refl
+  first_same (Some r) e = second_same r.number r.next (run_at s r.next 32) (omega (arith, run_end s 0 32 r e)) refl
 
   pub cut_same : closing_text (take n s) ≡ closing_text s
   unfolding closing_text first_line

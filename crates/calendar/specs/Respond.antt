@@ -1,8 +1,8 @@
 -- Laws of the answer to a file and of the answer to an input. Assumes nothing.
 use Rattle.std.proofs.Math.Path.{◌≡◌, refl, ap}
 use Rattle.std.proofs.Common.{sym, ◌∙◌, ap₂, subst, ne_eqb, le-leb, length-drop, take_all}
-use Rattle.std.specs.Prelude.{List, ℕ, ◌+◌, ◌-◌, ◌≤◌, ◌<◌, take, drop}
-use Rattle.std.proofs.Math.Nat.{zero-add, sub-zero}
+use Rattle.std.specs.Prelude.{List, Option, Some, None, ℕ, ◌+◌, ◌-◌, ◌≤◌, ◌<◌, take, drop}
+use Rattle.std.proofs.Math.Nat.{zero-add}
 use native.Mathlib.Omega.{arith}
 use Rattle.std.proofs.lemmas.Bool.{lt-leb}
 use Rattle.std.proofs.Math.ListN.{length, length-append}
@@ -11,8 +11,7 @@ use Rattle.model.specs.Overlay.{overlay}
 use Rattle.model.specs.Calendar.{run_at, first, second, third, first_line, refusal_of, tally_text, refusal_text}
 use Rattle.model.specs.Calls.{zeros, forecast_refusal, file_tally, file_text, closing_of, closing_text, respond_answer, respond_output, Responded}
 use Rattle.model.specs.declared.Run.{Run}
-use Rattle.model.specs.declared.Run.TheVariants.{Number, Wrong}
-use Rattle.model.specs.declared.FirstLine.TheVariants.{Asked, Refused}
+use Rattle.model.specs.declared.Asked.{Asked}
 use Rattle.triangles.specs.Order.{SameRecords}
 use Rattle.triangles.specs.Lines.{SameButLine, order_alike}
 use Rattle.triangles.specs.CallsLines.{forecast_refusal_alike, output_alike}
@@ -50,38 +49,46 @@ module _ (before t : List ℕ) where
   written_room = omega (arith, length-append t (drop (0 + length t) before))
 
 -- ---- the first line
+
+some_same : {A : Type 0} {x y : A} → ◌≡◌ {A = Option A} (Some x) (Some y) → x ≡ y
+some_same e = cc
+
 module _ (s : List ℕ) where
   -- the file starts inside the input
-  by_third : (m method : ℕ) (r : Run) (q k l b a : ℕ) → run_at s q 10 ≡ r → third m method r ≡ Asked k l b a → a ≤ length s
+  by_third : (m method : ℕ) (r : Option Run) (q : ℕ) (a : Asked) → run_at s q 10 ≡ r → third m method r ≡ Some a → a.start ≤ length s
   unfolding third
-  by_third m method Wrong q k l b a e h = absurd (let z : ◌≡◌ {A = ℕ} 0 1 = cc in omega arith)
-  by_third m method (Number n p) q k l b a e h = let d : p ≡ a = cc in let w = run_within s q 10 n p (omega arith) e in omega arith
+  by_third m method None q a e h = absurd (let z : ◌≡◌ {A = ℕ} 0 1 = cc in omega arith)
+  by_third m method (Some r) q a e h =
+      let d : r.next ≡ a.start = ap (λ (x : Asked). x.start) (some_same h) in
+      let w = run_within s q 10 r (omega arith) e in
+      omega arith
 
-  by_second : (m : ℕ) (r : Run) (k l b a : ℕ) → second s m r ≡ Asked k l b a → a ≤ length s
+  by_second : (m : ℕ) (r : Option Run) (a : Asked) → second s m r ≡ Some a → a.start ≤ length s
   unfolding second
-  by_second m Wrong k l b a h = absurd (let z : ◌≡◌ {A = ℕ} 0 1 = cc in omega arith)
-  by_second m (Number n p) k l b a h = by_third m n (run_at s p 10) p k l b a refl h
+  by_second m None a h = absurd (let z : ◌≡◌ {A = ℕ} 0 1 = cc in omega arith)
+  by_second m (Some r) a h = by_third m r.number (run_at s r.next 10) r.next a refl h
 
-  by_first : (r : Run) (k l b a : ℕ) → first s r ≡ Asked k l b a → a ≤ length s
+  by_first : (r : Option Run) (a : Asked) → first s r ≡ Some a → a.start ≤ length s
   unfolding first
-  by_first Wrong k l b a h = absurd (let z : ◌≡◌ {A = ℕ} 0 1 = cc in omega arith)
-  by_first (Number n p) k l b a h = by_second n (run_at s p 32) k l b a h
+  by_first None a h = absurd (let z : ◌≡◌ {A = ℕ} 0 1 = cc in omega arith)
+  by_first (Some r) a h = by_second r.number (run_at s r.next 32) a h
 
-  pub file_inside : (k l b a : ℕ) → first_line s ≡ Asked k l b a → a ≤ length s
+  pub file_inside : (a : Asked) → first_line s ≡ Some a → a.start ≤ length s
   unfolding first_line
-  file_inside k l b a h = by_first (run_at s 0 32) k l b a h
+  file_inside a h = by_first (run_at s 0 32) a h
 
   -- the answer in each case
-  pub asked_text : (m method basis a : ℕ) → first_line s ≡ Asked m method basis a → closing_text s ≡ file_text m (drop a s) method basis
+  pub asked_text : (a : Asked) → first_line s ≡ Some a → closing_text s ≡ file_text a.m (drop a.start s) a.method a.basis
   unfolding closing_text closing_of
-  asked_text m method basis a e = ap (closing_of s) e
+  asked_text a e = ap (closing_of s) e
 
-  pub wrong_text : first_line s ≡ Refused → closing_text s ≡ refusal_text 1
+  pub wrong_text : first_line s ≡ None → closing_text s ≡ refusal_text 1
   unfolding closing_text closing_of refusal_of
   wrong_text e = ap (closing_of s) e
 
   -- inputs that ask the same of files that differ in the line at most, or in the order of records
-  pub respond_alike : (t : List ℕ) {m method basis a b : ℕ} → first_line s ≡ Asked m method basis a → first_line t ≡ Asked m method basis b → SameButLine m (drop a s) (drop b t)
+  pub respond_alike : (t : List ℕ) {m method basis a b : ℕ} → first_line s ≡ Some (record { m = m; method = method; basis = basis; start = a }) → first_line t ≡ Some (record { m = m; method = method; basis = basis; start = b })
+      → SameButLine m (drop a s) (drop b t)
       → (before : List ℕ) → (respond_answer s before ≡ respond_answer t before) × (respond_output s before ≡ respond_output t before)
   unfolding respond_answer respond_output closing_text closing_of
   respond_alike t {m} {method} {basis} e h alike before = rw (e, h, text_alike alike method basis) (refl, refl)
@@ -106,9 +113,9 @@ module _ (s : List ℕ) where
 
     -- it goes from the front of a longer list to the front of the output
     pub copied : (filled whole after : List ℕ) (n r : ℕ) → whole ≡ overlay filled 0 (closing_text s) → n ≡ length (closing_text s)
-        → Written before 0 (take (n - 0) (drop 0 whole)) after r → (r ≡ respond_answer s before) × (after ≡ respond_output s before)
+        → Written before 0 (take n whole) after r → (r ≡ respond_answer s before) × (after ≡ respond_output s before)
     copied filled whole after n r w e d =
-        let t : take (n - 0) (drop 0 whole) ≡ closing_text s = ap (λ (k : ℕ). take k whole) (sub-zero n) ∙ ap₂ take e w ∙ written_front filled (closing_text s) in
+        let t : take n whole ≡ closing_text s = ap₂ take e w ∙ written_front filled (closing_text s) in
         let z = subst (λ (xs : List ℕ). Written before 0 xs after r) t d in
         answered after r (written_length z) (written_whole z)
 

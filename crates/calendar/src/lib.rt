@@ -6,7 +6,7 @@ ghost use Rattle.model.specs.Overlay.{overlay};
 ghost use Rattle.model.specs.Calls.{file_text, closing_text, respond_answer, respond_output, Responded};
 
 use first_line::read_first_line;
-use model::FirstLine;
+use refusals::Refusal;
 use tally::tally_of;
 use tally_text::{write_refusal, write_tally_text};
 use text::write_bytes;
@@ -20,19 +20,18 @@ pub const TEXT_ROOM: usize = 4096;
 // The bytes that such a text has at most.
 const LONGEST: usize = 2573;
 
-// Writes the answer to a file: the text of its forecast's tally, or of the refusal.
+// Writes the answer to a file: the text of its forecast's tally, or of the refusal. Method and
+// basis are the numbers that the first line says.
 fn answer_file(file: &[u8], m: usize, method: u64, basis: u64, text: &mut [u8]) -> usize
     requires { 2573 ≤ length text.old }
     ensures { (text.new ≡ overlay text.old 0 (file_text m file.now method basis)) × (result ≡ length (file_text m file.now method basis)) }
 {
     let mut leftovers = [0i64; 20];
     let mut entries = [0i64; 1560];
-    let refusal = forecast::forecast_into(file, m, method, basis, &mut leftovers, &mut entries);
-    if refusal != 0 {
-        return write_refusal(text, refusal);
+    match forecast::forecast_into(file, m, method, basis, &mut leftovers, &mut entries) {
+        Ok(()) => write_tally_text(text, m, &tally_of(&entries, m)),
+        Err(refusal) => write_refusal(text, u64::from(refusal)),
     }
-    let t = tally_of(&entries, m);
-    write_tally_text(text, m, &t.rbns, &t.ibnr)
 }
 
 // Writes the answer to an input: its first line and the file behind it.
@@ -40,10 +39,11 @@ fn answer(input: &[u8], text: &mut [u8]) -> usize
     requires { 2573 ≤ length text.old }
     ensures { (text.new ≡ overlay text.old 0 (closing_text input.now)) × (result ≡ length (closing_text input.now)) }
 {
-    let FirstLine::Asked(m, method, basis, at) = read_first_line(input) else {
-        return write_refusal(text, 1);
+    let Some(asked) = read_first_line(input) else {
+        return write_refusal(text, u64::from(Refusal::Size));
     };
-    answer_file(&input[at..], m as usize, method, basis, text)
+    let file = &input[asked.start..];
+    answer_file(file, asked.m as usize, asked.method, asked.basis, text)
 }
 
 // `respond` for an output that may be too short: the text is made elsewhere first.
@@ -55,7 +55,7 @@ fn respond_short(input: &[u8], out: &mut [u8]) -> usize
     if out.len() < n {
         return 0;
     }
-    write_bytes(out, 0, &text[0..n])
+    write_bytes(out, 0, &text[..n])
 }
 
 // The text that `closing` prints for its whole standard input, written to the front of the output;
@@ -71,7 +71,8 @@ pub fn respond(input: &[u8], out: &mut [u8]) -> usize
 }
 
 // The text for an input of which n bytes were read into the buffer, all that there were or as many
-// as it holds, written to the front of the output; hands back its length.
+// as it holds, written to the front of the output; hands back its length. The buffer goes with n,
+// and is no slice of n bytes, since a full one stands for every longer input.
 pub fn respond_to(input: &[u8; INPUT_ROOM], n: usize, out: &mut [u8; TEXT_ROOM]) -> usize
     ensures { Responded input.now n out.old out.new result }
 {

@@ -1,23 +1,42 @@
 // Cash by dates (02, Job 5): what of a file's forecast falls due in a window.
 #![tactic(auto)]
 
-ghost use Rattle.std.specs.Prelude.{◌≡◌};
-ghost use Rattle.model.specs.Calls.{refused_cash, cash_answer};
+ghost use Rattle.std.specs.Prelude.{◌≡◌, ◌-◌, ◌*◌, IfOk};
+ghost use Rattle.model.specs.Cash.{cash_in};
+ghost use Rattle.model.specs.Calls.{file_tally, cash_refusal, cash_answer};
+ghost use Rattle.refusals.specs.Refusals.{refusal_number};
 
 use due::due_before;
 use forecast_years::q19;
 use model::{CashAnswer, Date};
+use refusals::Refusal;
 use tally::tally_of;
 
-// A refusal, with zeros beside it.
-fn refused(number: u64) -> CashAnswer
-    ensures { result ≡ refused_cash number }
+// What falls due in a window.
+fn due_in(
+    file: &[u8],
+    m: usize,
+    method: u64,
+    basis: u64,
+    valuation: Date,
+    start: Date,
+    end: Date,
+) -> Result<i64, Refusal>
+    ensures value { refusal_number result ≡ cash_refusal m file.now method basis valuation start end }
+    ensures amount { IfOk result (λ x. x ≡ cash_in (2 * m - 2) (file_tally m file.now method basis) valuation start end) }
 {
-    CashAnswer {
-        refusal: number,
-        line: 0,
-        amount: 0,
+    let mut set = [0i64; 1200];
+    forecast::read_to_forecast(file, m, method, basis, &mut set)?;
+    let mut leftovers = [0i64; 20];
+    let mut entries = [0i64; 1560];
+    set_forecast::forecast_set(&set, m, method, basis, &mut leftovers, &mut entries)?;
+    if !q19(m, valuation, start, end) {
+        return Err(Refusal::Dates);
     }
+    let t = tally_of(&entries, m);
+    let due = due_before(&t, valuation, end);
+    let before = due_before(&t, valuation, start);
+    Ok(due - before)
 }
 
 // The cash of a window, by method and basis: what falls due from its start on and before its end,
@@ -34,26 +53,16 @@ pub fn cash_in_window(
 ) -> CashAnswer
     ensures { result ≡ cash_answer m file.now method basis valuation start end }
 {
-    let mut set = [0i64; 1200];
-    let refusal = forecast::read_to_forecast(file, m, method, basis, &mut set);
-    if refusal != 0 {
-        return refused(refusal);
-    }
-    let mut leftovers = [0i64; 20];
-    let mut entries = [0i64; 1560];
-    let refusal = set_forecast::forecast_set(&set, m, method, basis, &mut leftovers, &mut entries);
-    if refusal != 0 {
-        return refused(refusal);
-    }
-    if !q19(m, valuation, start, end) {
-        return refused(19);
-    }
-    let t = tally_of(&entries, m);
-    let due = due_before(&t.rbns, &t.ibnr, valuation, end);
-    let before = due_before(&t.rbns, &t.ibnr, valuation, start);
-    CashAnswer {
-        refusal: 0,
-        line: triangles::line(file),
-        amount: due - before,
+    match due_in(file, m, method, basis, valuation, start, end) {
+        Ok(amount) => CashAnswer {
+            refusal: 0,
+            line: triangles::line(file),
+            amount,
+        },
+        Err(refusal) => CashAnswer {
+            refusal: u64::from(refusal),
+            line: 0,
+            amount: 0,
+        },
     }
 }

@@ -1,6 +1,9 @@
--- How large a cell gets: at most 2 × 10^15. Assumes nothing.
+-- How large a cell gets: at most 2 × 10^15. What is small is read back from a word. Assumes
+-- nothing.
 use Rattle.std.specs.Prelude.{List, Bool, true, false, cond, ℕ, ◌+◌, ◌-◌, ◌*◌, ◌^◌, ◌≤◌, ◌<◌, ℤ, pos, nat_abs, ◌*ℤ◌}
-use Rattle.std.proofs.Common.{mul-le-mul, arith}
+use Rattle.std.proofs.Common.{◌≡◌, mul-le-mul, arith, w64, to_z, of_z}
+use Rattle.std.proofs.Math.Facts.{to_z-of_z}
+use Rattle.rounding.specs.Words.{fits_abs}
 use Rattle.std.proofs.Math.Dec.{leb, ltb}
 use Rattle.integers.specs.Order.{nat_abs-*ℤ, *ℤ_pos}
 use Rattle.model.specs.Rounding.{S, r}
@@ -10,6 +13,9 @@ use Rattle.model.specs.Lists.{at}
 use Rattle.cells.specs.Weights.{Weights, Delays}
 use Rattle.cells.specs.CellOf.{Year, cell_of}
 use Rattle.cells.specs.PairLaws.{pairs_small}
+
+pub read_back : (z : ℤ) → nat_abs z ≤ 9 * 10 ^ 18 → to_z w64 (of_z w64 z) ≡ z
+read_back z h = to_z-of_z (fits_abs (omega (arith, h)))
 
 scaled_small : (v x : ℤ) → nat_abs v ≤ 2 * 10 ^ 14 → nat_abs x ≤ 9 * 10 ^ 18 → nat_abs (r (v *ℤ x) (S *ℤ S)) ≤ 2 * 10 ^ 15
 unfolding S

@@ -67,7 +67,7 @@ module _ (m k : ℕ) (b p : List ℤ) where
   start = tabulate_ext 39 (λ j. pairs m j (leb (k + 1)) b p) (mixed 0) (λ j h. ⊎_elim (λ y. absurd (let z : ⊥ = omega arith in z)) (λ o. sym (outside 0 j o)) (places 0 j))
 
   module _ (l : ℕ) (h : l < m) (few : k + l < 39) (k<m : k < m) where
-    here : at (partly l) (k + l) ≡ pairs m (k + l) (leb (k + 1)) b p
+    pub here : at (partly l) (k + l) ≡ pairs m (k + l) (leb (k + 1)) b p
     unfolding partly
     here = get_d_tabulate 39 (mixed l) (k + l) (pos 0) few ∙ outside l (k + l) (inr (omega arith))
 

@@ -1,23 +1,12 @@
 // The cells of a year (01, Cell forecasts).
 #![tactic(auto)]
 
-ghost use Rattle.std.specs.Prelude.{◌≡◌, ℕ, ◌+◌, ◌-◌, ◌*◌, ◌^◌, ◌≤◌, ◌<◌, leb, pos, nat_abs, length};
+ghost use Rattle.std.specs.Prelude.{◌≡◌, ◌↔◌, ℕ, ◌+◌, ◌-◌, ◌*◌, ◌≤◌, ◌<◌, leb, pos, length};
 ghost use Rattle.model.specs.Lists.{tabulate};
 ghost use Rattle.model.specs.Overlay.{overlay};
 ghost use Rattle.model.specs.Cells.{pairs};
 ghost use Rattle.cells.specs.Weights.{Weights, Delays};
-ghost use Rattle.cells.specs.CellOf.{Year, cell_of, year_entries};
-
-// The first k for which j - k is at most m - 1.
-fn first_pair(m: usize, j: usize) -> usize
-    requires { (1 ≤ m) × (m ≤ 20) × (j < 40) }
-    ensures { (j < result + m) × ((i : ℕ) → i < result → i + m ≤ j) }
-{
-    if j < m {
-        return 0;
-    }
-    j + 1 - m
-}
+ghost use Rattle.cells.specs.CellOf.{number, OfYear, year_cell, entries_of};
 
 // The sum of x(k) × p(j-k) over the k up to n, which is at most j, with j - k at most m - 1.
 fn pair_sum(x: &[i64; 20], p: &[i64; 20], m: usize, j: usize, n: usize) -> i64
@@ -26,34 +15,11 @@ fn pair_sum(x: &[i64; 20], p: &[i64; 20], m: usize, j: usize, n: usize) -> i64
     requires delays { Delays p.now }
     ensures { result ≡ pairs m j (λ k. leb k n) x.now p.now }
 {
-    let mut k = first_pair(m, j);
     let mut sum = 0;
-    while k <= n {
+    for k in (j + 1).saturating_sub(m)..n + 1 {
         sum += x[k] * p[j - k];
-        k += 1;
     }
     sum
-}
-
-// The sum of s(k) × p(j-k) over the reported claims of year i: under basis 1 the whole sum less
-// that over the unreported claims.
-fn reported_sum(
-    basis: u64,
-    whole: &[i64; 39],
-    unreported: &[i64; 39],
-    s: &[i64; 20],
-    p: &[i64; 20],
-    m: usize,
-    i: usize,
-    j: usize,
-) -> i64
-    requires { Year m i basis whole.now unreported.now s.now p.now × (m < i + j) × (j < 39) }
-    ensures { result ≡ pairs m j (λ k. leb k (m - i)) s.now p.now }
-{
-    if basis == 1 {
-        return whole[j] - unreported[j];
-    }
-    pair_sum(s, p, m, j, m - i)
 }
 
 // RBNS and IBNR of one cell.
@@ -63,29 +29,81 @@ pub struct Cell {
     pub ibnr: i64,
 }
 
-// The cell of year i and delay j, which is not known yet: v is the row base, s weighs the reported
-// claims, p holds the delays, and `unreported` the sums over the claims that are not reported.
-// Under basis 1 `whole` holds the sums over all claims.
-pub fn open_cell(
-    v: i64,
-    basis: u64,
-    whole: &[i64; 39],
-    unreported: &[i64; 39],
-    s: &[i64; 20],
-    p: &[i64; 20],
-    m: usize,
-    i: usize,
-    j: usize,
-) -> Cell
-    requires year { Year m i basis whole.now unreported.now s.now p.now × (nat_abs v ≤ 2 * 10 ^ 14) }
-    requires m_bound { (m < i + j) × (j < 39) }
-    ensures { result ≡ cell_of m v s.now p.now unreported.now i j }
-{
-    let reported = reported_sum(basis, whole, unreported, s, p, m, i, j);
-    let later = unreported[j];
-    Cell {
-        rbns: scaling::scale_cell(v, reported),
-        ibnr: scaling::scale_cell(v, later),
+// What the reported claims are weighed by: a year's actual counts, or the estimated ones.
+#[derive(Clone, Copy)]
+pub enum Basis {
+    Actual,
+    Estimated,
+}
+
+// By the number of a call: 1 is estimated, any other number actual.
+impl From<u64> for Basis {
+    ghost from_gives = { λ n b. (number b ≡ 1) ↔ (n ≡ 1) };
+
+    fn from(n: u64) -> Basis {
+        match n {
+            1 => Basis::Estimated,
+            _ => Basis::Actual,
+        }
+    }
+}
+
+// What the cells of year i are made of, in a set of size m: v is the row base, s weighs the
+// reported claims, p holds the delays, and `unreported` the sums over the claims that are not
+// reported. With estimated counts `whole` holds the sums over all claims.
+#[derive(Clone, Copy)]
+pub struct YearParts<'a> {
+    pub m: usize,
+    pub i: usize,
+    pub v: i64,
+    pub basis: Basis,
+    pub whole: &'a [i64; 39],
+    pub unreported: &'a [i64; 39],
+    pub s: &'a [i64; 20],
+    pub p: &'a [i64; 20],
+}
+
+impl<'a> YearParts<'a> {
+    // The sum of s(k) × p(j-k) over the reported claims of the year: with estimated counts the
+    // whole sum less that over the unreported claims.
+    fn reported_sum(&self, j: usize) -> i64
+        requires { OfYear self.now × (self.now.m < self.now.i + j) × (j < 39) }
+        ensures { result ≡ pairs self.now.m j (λ k. leb k (self.now.m - self.now.i)) self.now.s.now self.now.p.now }
+    {
+        match self.basis {
+            Basis::Estimated => self.whole[j] - self.unreported[j],
+            Basis::Actual => pair_sum(self.s, self.p, self.m, j, self.m - self.i),
+        }
+    }
+
+    // The cell of delay j, which is not known yet.
+    pub fn open_cell(&self, j: usize) -> Cell
+        requires of_year { OfYear self.now }
+        requires m_bound { (self.now.m < self.now.i + j) × (j < 39) }
+        ensures { result ≡ year_cell self.now j }
+    {
+        let reported = self.reported_sum(j);
+        Cell {
+            rbns: scaling::scale_cell(self.v, reported),
+            ibnr: scaling::scale_cell(self.v, self.unreported[j]),
+        }
+    }
+
+    // Writes the cells of the year, RBNS and IBNR for each delay from 0 to 2m - 2, from entry
+    // `from` on.
+    pub fn write(&self, out: &mut [i64], from: usize)
+        requires of_year { OfYear self.now }
+        requires m_in_bounds { from + 2 * (2 * self.now.m - 1) ≤ length out.old }
+        ensures { out.new ≡ overlay out.old from (entries_of self.now) }
+    {
+        let first = self.m + 1 - self.i;
+        write_known(out, from, 2 * first);
+        for j in first..2 * self.m - 1 {
+            let cell = self.open_cell(j);
+            let place = from + 2 * j;
+            out[place] = cell.rbns;
+            out[place + 1] = cell.ibnr;
+        }
     }
 }
 
@@ -94,40 +112,5 @@ fn write_known(out: &mut [i64], from: usize, n: usize)
     requires { from + n ≤ length out.old }
     ensures { out.new ≡ overlay out.old from (tabulate n (λ _. pos 0)) }
 {
-    let mut k = 0;
-    while k < n {
-        out[from + k] = 0;
-        k += 1;
-    }
-}
-
-// Writes the cells of year i, RBNS and IBNR for each delay from 0 to 2m - 2, from entry `from` on.
-pub fn write_year(
-    out: &mut [i64],
-    from: usize,
-    v: i64,
-    basis: u64,
-    whole: &[i64; 39],
-    unreported: &[i64; 39],
-    s: &[i64; 20],
-    p: &[i64; 20],
-    m: usize,
-    i: usize,
-)
-    requires year { Year m i basis whole.now unreported.now s.now p.now × (nat_abs v ≤ 2 * 10 ^ 14) }
-    requires m_in_bounds { from + 2 * (2 * m - 1) ≤ length out.old }
-    ensures { out.new ≡ overlay out.old from (year_entries m v s.now p.now unreported.now i) }
-{
-    let first = m + 1 - i;
-    write_known(out, from, 2 * first);
-    let mut j = first;
-    while j < 2 * m - 1 {
-        let cell = open_cell(v, basis, whole, unreported, s, p, m, i, j);
-        let rbns = cell.rbns;
-        let ibnr = cell.ibnr;
-        let place = from + 2 * j;
-        out[place] = rbns;
-        out[place + 1] = ibnr;
-        j += 1;
-    }
+    out[from..from + n].fill(0);
 }

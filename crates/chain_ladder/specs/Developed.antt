@@ -1,5 +1,5 @@
 -- What this crate's functions hand back of the triangles of a set of size m.
-use Rattle.std.specs.Prelude.{ℕ, ◌≡◌, Bool, true, List, ℤ}
+use Rattle.std.specs.Prelude.{ℕ, ◌≡◌, true, false, List, ℤ, Option, MatchOption}
 use Rattle.model.specs.Shares as Shares
 use Rattle.model.specs.Questions.{first_no, of_shares, q13}
 use Rattle.model.specs.Lent.{triangle_in}
@@ -12,7 +12,6 @@ pub record Developed (m : ℕ) (set : List ℤ) (n : ℕ) (cl cg dl dg : List �
   pub counts : n ≡ 0 → Ladder m (triangle_in 0 set) cl cg
   pub paid : n ≡ 0 → Ladder m (triangle_in 1 set) dl dg
 
--- question 13 of incurred t, and where it gets a yes W
-pub record IncurredOf (m : ℕ) (t : List ℤ) (ok : Bool) (w : List ℤ) : Type 0 where
-  pub answer : ok ≡ q13 m t
-  pub ultimates : ok ≡ true → w ≡ Shares.ultimates m t
+-- W of incurred t, where question 13 gets a yes
+abbrev pub IncurredOf : ℕ → List ℤ → Option (List ℤ) → Type 0
+IncurredOf m t given = MatchOption given (q13 m t ≡ false) (λ w. (q13 m t ≡ true) × (w ≡ Shares.ultimates m t))

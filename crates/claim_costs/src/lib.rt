@@ -12,8 +12,8 @@ ghost use Rattle.model.specs.declared.TriangleSet.{TriangleSet};
 ghost use Rattle.chain_ladder.specs.Valid.{Amounts};
 ghost use Rattle.claim_costs.specs.Costs.{Exact, AllExact, cost_at, inflation_of, costs_of_set};
 
+use ladder::ChainLadder;
 use ladder::sums::sums;
-use ladder::ultimates;
 use model::{Inflation, YearInflation};
 
 // x / y: one division of two whole numbers that binary64 holds exactly.
@@ -25,17 +25,15 @@ fn quotient(x: i64, y: i64) -> f64
 }
 
 // The quotients of the first n places, then zeros.
-fn quotients<'a>(xs: &'a [i64; 20], ys: &'a [i64; 20], n: usize) -> [f64; 20]
+fn quotients(xs: &[i64; 20], ys: &[i64; 20], n: usize) -> [f64; 20]
     requires { AllExact n xs.now ys.now }
     ensures { result ≡ listed 20 n (λ k. quotient (at xs.now k) (at ys.now k)) no_float }
 {
     let mut out = [0.0; 20];
-    let mut k = 0;
-    while k < n {
+    for k in 0..n {
         let x = xs[k];
         let y = ys[k];
         out[k] = quotient(x, y);
-        k += 1;
     }
     out
 }
@@ -55,12 +53,7 @@ fn inflation(i: usize, ultimate: i64, cost: f64, mu: f64) -> Inflation
 }
 
 // The inflations of years 1 to m, from their ultimates and mean costs.
-fn inflations<'a>(
-    ultimates: &'a [i64; 20],
-    costs: &'a [f64; 20],
-    mu: f64,
-    m: usize,
-) -> [YearInflation; 20]
+fn inflations(ultimates: &[i64; 20], costs: &[f64; 20], mu: f64, m: usize) -> [YearInflation; 20]
     requires { (m ≤ 20) × T (positive mu) }
     ensures { result ≡ listed 20 m (λ k. year_inflation (inflation_of (suc k) (at ultimates.now k) (cost_at costs.now k) mu)) (year_inflation NoPaymentsYet) }
 {
@@ -68,19 +61,16 @@ fn inflations<'a>(
         value: Inflation::NoPaymentsYet,
     };
     let mut out = [none; 20];
-    let mut k = 0;
-    while k < m {
-        let u = ultimates[k];
-        let cost = costs[k];
+    for k in 0..m {
         out[k] = YearInflation {
-            value: inflation(k + 1, u, cost, mu),
+            value: inflation(k + 1, ultimates[k], costs[k], mu),
         };
-        k += 1;
     }
     out
 }
 
-// A refusal, with zeros and "no payments yet" beside it.
+// A refusal, with zeros and "no payments yet" beside it; each answer has fields of its own, so each
+// has its own.
 fn refused(number: u64) -> model::ClaimCostsAnswer
     ensures { result ≡ refused_claim_costs number }
 {
@@ -103,23 +93,16 @@ fn claim_costs_of_set(set: &[i64; 1200], line: u64, m: usize) -> model::ClaimCos
     requires { Amounts m (10 ^ 7) (triangle_in 0 set.now) × Amounts m (10 ^ 10) (triangle_in 1 set.now) }
     ensures { (like : TriangleSet) → line ≡ like.line → result ≡ costs_of_set m (lent_set like set.now) }
 {
-    let mut count_latest = [0i64; 20];
-    let mut count_g = [0i64; 20];
-    let mut paid_latest = [0i64; 20];
-    let mut paid_g = [0i64; 20];
-    let refusal = chain_ladder::develop(
-        set,
-        m,
-        &mut count_latest,
-        &mut count_g,
-        &mut paid_latest,
-        &mut paid_g,
-    );
-    if refusal != 0 {
-        return refused(refusal);
+    let mut counts = ChainLadder {
+        latest: [0; 20],
+        g: [0; 20],
+    };
+    let mut paid = counts;
+    if let Err(refusal) = chain_ladder::develop(set, m, &mut counts, &mut paid) {
+        return refused(u64::from(refusal));
     }
-    let n = ultimates(&count_latest, &count_g, m);
-    let u = ultimates(&paid_latest, &paid_g, m);
+    let n = counts.ultimates(m);
+    let u = paid.ultimates(m);
     let costs = quotients(&u, &n, m);
     let mu = costs[0];
     let mut latest = [0i64; 20];
@@ -143,9 +126,8 @@ pub fn claim_costs(file: &[u8], m: usize) -> model::ClaimCostsAnswer
     ensures { result ≡ claim_costs_answer m file.now }
 {
     let mut set = [0i64; 1200];
-    let refusal = triangles::read_cells(file, m, &mut set);
-    if refusal != 0 {
-        return refused(refusal);
+    if let Err(refusal) = triangles::read_cells(file, m, &mut set) {
+        return refused(u64::from(refusal));
     }
     claim_costs_of_set(&set, triangles::line(file), m)
 }

@@ -13,81 +13,63 @@ use std::io::ErrorKind;
 // half of them interrupted by signals.
 const CALLS: usize = 20000;
 
-// How reading ended: after so many bytes, at the input's end or where the buffer is full; or at a
-// read that failed.
-#[derive(Drop)]
-pub enum Input {
-    Bytes(usize),
-    Failed(io::Error),
-}
-
-// How writing ended: with all bytes written, so many; or at a write that failed.
-#[derive(Drop)]
-pub enum Output {
-    Whole(usize),
-    Failed(io::Error),
-}
-
-// Reads until the input ends, the buffer is full or a read fails. A read may give fewer bytes than
-// it was asked for, and then the next one goes on after them; one that a signal interrupted is made
-// again.
-fn read_all<R: io::Read>(reader: &mut R, buf: &mut [u8]) -> Input
+// Reads until the input ends, the buffer is full or a read fails, and hands back how many bytes. A
+// read may give fewer bytes than it was asked for, and then the next one goes on after them; one
+// that a signal interrupted is made again.
+fn read_all<R: io::Read>(reader: &mut R, buf: &mut [u8]) -> io::Result<usize>
     ensures { Read result buf.old buf.new }
 {
     let mut done = 0;
-    let mut calls = CALLS;
-    while done < buf.len() {
-        if calls == 0 {
-            return Input::Failed(io::Error::from(ErrorKind::Interrupted));
+    for _ in 0..CALLS {
+        if done == buf.len() {
+            break;
         }
-        calls -= 1;
         match reader.read(&mut buf[done..]) {
-            Ok(0) => return Input::Bytes(done),
+            Ok(0) => return Ok(done),
             Ok(n) => done += n,
-            Err(error) => {
-                if error.kind() != ErrorKind::Interrupted {
-                    return Input::Failed(error);
-                }
-            }
+            Err(error) if error.kind() == ErrorKind::Interrupted => {}
+            Err(error) => return Err(error),
         }
     }
-    Input::Bytes(done)
+    if done < buf.len() {
+        return Err(io::Error::from(ErrorKind::Interrupted));
+    }
+    Ok(done)
 }
 
-// Writes the text, or stops at a write that fails or takes nothing. A write may take fewer bytes
-// than it was given, and then the next one goes on after them; one that a signal interrupted is
-// made again.
-fn write_whole<W: io::Write>(writer: &mut W, text: &[u8]) -> Output
+// Writes the text and hands back its length, or stops at a write that fails or takes nothing. A
+// write may take fewer bytes than it was given, and then the next one goes on after them; one that
+// a signal interrupted is made again.
+fn write_whole<W: io::Write>(writer: &mut W, text: &[u8]) -> io::Result<usize>
     ensures { WholeOf result text.now }
 {
     let mut sent = 0;
-    let mut calls = CALLS;
-    while sent < text.len() {
-        if calls == 0 {
-            return Output::Failed(io::Error::from(ErrorKind::Interrupted));
+    for _ in 0..CALLS {
+        if sent == text.len() {
+            break;
         }
-        calls -= 1;
         match writer.write(&text[sent..]) {
-            Ok(0) => return Output::Failed(io::Error::from(ErrorKind::WriteZero)),
+            Ok(0) => return Err(io::Error::from(ErrorKind::WriteZero)),
             Ok(n) => sent += n,
-            Err(error) => {
-                if error.kind() != ErrorKind::Interrupted {
-                    return Output::Failed(error);
-                }
-            }
+            Err(error) if error.kind() == ErrorKind::Interrupted => {}
+            Err(error) => return Err(error),
         }
     }
-    Output::Whole(sent)
+    if sent < text.len() {
+        return Err(io::Error::from(ErrorKind::Interrupted));
+    }
+    Ok(sent)
 }
 
 // Writes the text for the input that was read into the buffer; after a failed read, nothing.
-fn answer<W: io::Write>(writer: &mut W, input: &[u8; INPUT_ROOM], read: Input) -> Output
+fn answer<W: io::Write>(
+    writer: &mut W,
+    input: &[u8; INPUT_ROOM],
+    read: io::Result<usize>,
+) -> io::Result<usize>
     ensures { Answered result input.now read }
 {
-    let n = match read {
-        Input::Bytes(n) => n,
-        Input::Failed(error) => return Output::Failed(error),
-    };
+    let n = read?;
     let mut text = [0u8; TEXT_ROOM];
     let k = calendar::respond_to(input, n, &mut text);
     write_whole(writer, &text[..k])
@@ -98,7 +80,7 @@ fn answer<W: io::Write>(writer: &mut W, input: &[u8; INPUT_ROOM], read: Input) -
 fn main(rt: HostRuntime) {
     let mut input = [0u8; INPUT_ROOM];
     let read = read_all(&mut rt.stdin(), &mut input);
-    if let Output::Failed(error) = answer(&mut rt.stdout(), &input, read) {
+    if let Err(error) = answer(&mut rt.stdout(), &input, read) {
         // Where this fails too, there is nobody to tell.
         let _ = eprintln!(rt; "closing: {error}");
     }

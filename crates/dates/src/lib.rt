@@ -10,50 +10,35 @@ use model::Date;
 const MONTH_DAYS: [u64; 12] = [31, 28, 31, 30, 31, 30, 31, 31, 30, 31, 30, 31];
 
 // Whether a year is a leap year.
+#[tactic(auto, unfolding(model::specs::Dates::leap))]
 pub fn is_leap(year: u64) -> bool
     ensures { result ≡ leap year }
 {
-    if year % 4 != 0 {
-        return false;
-    }
-    if year % 100 != 0 {
-        return true;
-    }
-    year % 400 == 0
+    year % 4 == 0 && (year % 100 != 0 || year % 400 == 0)
 }
 
 // The days of a month, 1 to 12, of a leap year or a common one; 0 for another number.
+#[tactic(auto, unfolding(model::specs::Dates::month_length, model::specs::Dates::month_days))]
 pub fn month_length(leap: bool, month: u64) -> u64
     ensures { result ≡ month_length leap month }
 {
-    if month < 1 {
-        return 0;
+    match month {
+        2 if leap => 29,
+        1..=12 => MONTH_DAYS[(month - 1) as usize],
+        _ => 0,
     }
-    if 12 < month {
-        return 0;
-    }
-    let at = (month - 1) as usize;
-    let days = MONTH_DAYS[at];
-    if month != 2 {
-        return days;
-    }
-    if leap {
-        return 29;
-    }
-    days
 }
 
 // Whether there is such a date.
+#[tactic(auto, unfolding(model::specs::Dates::is_date))]
 pub fn is_date(date: Date) -> bool
     ensures { result ≡ is_date date }
 {
-    if date.day < 1 {
-        return false;
-    }
-    date.day <= month_length(is_leap(date.year), date.month)
+    1 <= date.day && date.day <= month_length(is_leap(date.year), date.month)
 }
 
 // The days of the years from 0 on before a year: 365 each, and one more for each leap year.
+#[tactic(auto, using(crate::specs::DatesLaws::years_by_division))]
 fn days_before_year(year: u64) -> u64
     requires { year ≤ 9999 }
     ensures { result ≡ days_before_year year }
@@ -66,24 +51,16 @@ fn days_before_month(leap: bool, month: u64) -> u64
     requires { (1 ≤ month) × (month ≤ 12) }
     ensures { result ≡ days_before_month leap month }
 {
-    let lengths = MONTH_DAYS;
-    let mut days = 0;
-    let mut k = 1;
-    while k < month {
-        let at = (k - 1) as usize;
-        days += lengths[at];
-        k += 1;
+    let common: u64 = MONTH_DAYS[..(month - 1) as usize].iter().sum();
+    if leap && 3 <= month {
+        common + 1
+    } else {
+        common
     }
-    if month < 3 {
-        return days;
-    }
-    if leap {
-        return days + 1;
-    }
-    days
 }
 
 // The number of a date.
+#[tactic(auto, unfolding(model::specs::Dates::day_number))]
 pub fn day_number(date: Date) -> u64
     requires { (is_date date ≡ true) × (date.year ≤ 9999) }
     ensures { result ≡ day_number date }
@@ -93,22 +70,19 @@ pub fn day_number(date: Date) -> u64
 }
 
 // The day of the month of an anniversary, in a leap year or a common one.
+#[tactic(auto, unfolding(model::specs::Dates::anniversary_day))]
 fn anniversary_day(month: u64, day: u64, leap: bool) -> u64
     ensures { result ≡ anniversary_day month day leap }
 {
-    if month != 2 {
-        return day;
+    if month == 2 && day == 29 && !leap {
+        28
+    } else {
+        day
     }
-    if day != 29 {
-        return day;
-    }
-    if leap {
-        return day;
-    }
-    28
 }
 
 // Anniversary t of a date.
+#[tactic(auto, unfolding(model::specs::Dates::anniversary))]
 pub fn anniversary(date: Date, t: u64) -> Date
     requires { date.year + t ≤ 9999 }
     ensures { result ≡ anniversary date t }

@@ -1,10 +1,11 @@
 -- Laws of Prepared: the answer by its stages, and the calls `delays` and `check_delays` by it.
 -- Assumes nothing.
-use Rattle.std.specs.Prelude.{◌≡◌, Bool, cond, ℕ, ◌≤◌, eqb, ℤ}
+use Rattle.std.specs.Prelude.{◌≡◌, Bool, cond, Option, Some, None, ℕ, ◌≤◌, eqb, ℤ}
 use Rattle.std.proofs.Math.Path.{refl, sym}
 use Rattle.std.proofs.Common.{◌∙◌, arith}
 use Rattle.std.proofs.Math.Bool.{true, false}
 use mathlib.Core.List.{List, [], ◌++◌}
+use Rattle.std.specs.Option.{option_map_or}
 use Rattle.integers.specs.Sums.{sum_cong}
 use borrow.Author.Tests.{eqb-true}
 use Rattle.model.specs.Records.{line_of, set_of}
@@ -19,7 +20,6 @@ use Rattle.model.specs.Tests.{by_test}
 use Rattle.model.specs.declared.DelaysAnswer.{DelaysAnswer}
 use Rattle.ladder.specs.SharesLaws.{at_b_list, shares_sum, share_range}
 use Rattle.chain_ladder.specs.DevelopedLaws.{Shared, shares_numbered, counts_least, counts_sound, paid_sound}
-use Rattle.solver.specs.declared.Solved.{Solved}
 use Rattle.solver.specs.Solved.{Solvable, solved_of, checked_of}
 use Rattle.delays.specs.Prepared.{pair_delays, prepared_refusal, asks_delays, delays_from, refusal_from, ReadDelays}
 
@@ -37,46 +37,51 @@ solvable {m} {c} {d} h e f =
       targets = λ l k. rw (at_b_list m d few l k) (share_range m d (paid_sound h) l k);
     })
 
+-- what stands in an Option by a test
+by_yes : (t : Bool) {p q : List ℤ} → Some p ≡ cond t (Some q) None → p ≡ q
+by_yes true e = cc
+by_yes false e = cc
+
 module _ (m : ℕ) (c d : List ℤ) where
   -- what either side hands back
-  abbrev found : Bool → List ℤ → Solved
-  found given lent = cond given (checked_of m (b_list m c) (b_list m d) lent) (solved_of m (b_list m c) (b_list m d))
+  abbrev pub found : Option (List ℤ) → Option (List ℤ)
+  found given = option_map_or (checked_of m (b_list m c) (b_list m d)) given (solved_of m (b_list m c) (b_list m d))
 
-  -- its yes or no is the answer to the question that it is asked
-  found_asked : (given : Bool) (lent : List ℤ) → first_no (asks_delays m c d given lent) ≡ cond (found given lent).ok 0 (cond given 20 12)
+  -- whether there are some is the answer to the question that it is asked
+  found_asked : (given : Option (List ℤ)) → first_no (asks_delays m c d given) ≡ option_map_or (λ p. 0) (found given) (option_map_or (λ lent. 20) given 12)
   unfolding asks_delays of_given_delays of_delays first_no checked_of solved_of
-  found_asked true lent = by_test (q20 m (b_list m c) (b_list m d) lent) (λ e. rw e) (λ e. rw e)
-  found_asked false lent = by_test (q12 m (pair_delays m c d)) (λ e. rw e) (λ e. rw e)
+  found_asked (Some lent) = by_test (q20 m (b_list m c) (b_list m d) lent) (λ e. rw e) (λ e. rw e)
+  found_asked None = by_test (q12 m (pair_delays m c d)) (λ e. rw e) (λ e. rw e)
 
   -- with a yes it is the delays
-  pub found_delays : (given : Bool) (lent : List ℤ) → (found given lent).ok ≡ true → (found given lent).p ≡ delays_from m c d given lent
+  pub found_delays : (given : Option (List ℤ)) {p : List ℤ} → Some p ≡ found given → p ≡ delays_from m c d given
   unfolding delays_from checked_of solved_of
-  found_delays true lent e = rw e
-  found_delays false lent e = rw e
+  found_delays (Some lent) e = by_yes (q20 m (b_list m c) (b_list m d) lent) e
+  found_delays None e = by_yes (q12 m (pair_delays m c d)) e
 
-  module _ (given : Bool) (lent : List ℤ) where
+  module _ (given : Option (List ℤ)) where
     -- ---- the refusal, stage by stage
-    pub by_shares : (first_no (of_shares m c d) ≡ 0 → ⊥) → refusal_from m c d given lent ≡ first_no (of_shares m c d)
+    pub by_shares : (first_no (of_shares m c d) ≡ 0 → ⊥) → refusal_from m c d given ≡ first_no (of_shares m c d)
     unfolding refusal_from
-    by_shares = stage_no (of_shares m c d) (asks_delays m c d given lent) (shares_numbered m c d)
+    by_shares = stage_no (of_shares m c d) (asks_delays m c d given) (shares_numbered m c d)
 
     module _ (asked : first_no (of_shares m c d) ≡ 0) where
-      after_shares : refusal_from m c d given lent ≡ cond (found given lent).ok 0 (cond given 20 12)
+      after_shares : refusal_from m c d given ≡ option_map_or (λ p. 0) (found given) (option_map_or (λ lent. 20) given 12)
       unfolding refusal_from
-      after_shares = stage_yes (of_shares m c d) (asks_delays m c d given lent) (shares_numbered m c d) asked ∙ found_asked given lent
+      after_shares = stage_yes (of_shares m c d) (asks_delays m c d given) (shares_numbered m c d) asked ∙ found_asked given
 
-      pub by_delays : (found given lent).ok ≡ false → refusal_from m c d given lent ≡ cond given 20 12
-      by_delays e = after_shares ∙ rw e
+      pub by_delays : None ≡ found given → refusal_from m c d given ≡ option_map_or (λ lent. 20) given 12
+      by_delays e = after_shares ∙ rw (← e)
 
-      pub none_refused : (found given lent).ok ≡ true → refusal_from m c d given lent ≡ 0
-      none_refused e = after_shares ∙ rw e
+      pub none_refused : {p : List ℤ} → Some p ≡ found given → refusal_from m c d given ≡ 0
+      none_refused e = after_shares ∙ rw (← e)
 
   -- the answers of an accepted pair
-  pub shares_so : (given : Bool) (lent : List ℤ) → refusal_from m c d given lent ≡ 0 → first_no (of_shares m c d) ≡ 0
+  pub shares_so : (given : Option (List ℤ)) → refusal_from m c d given ≡ 0 → first_no (of_shares m c d) ≡ 0
   unfolding refusal_from
-  shares_so given lent z = (stages_so (of_shares m c d) (asks_delays m c d given lent) (shares_numbered m c d) z).0
+  shares_so given z = (stages_so (of_shares m c d) (asks_delays m c d given) (shares_numbered m c d) z).0
 
-  pub given_so : (lent : List ℤ) → refusal_from m c d true lent ≡ 0 → q20 m (b_list m c) (b_list m d) lent ≡ true
+  pub given_so : (lent : List ℤ) → refusal_from m c d (Some lent) ≡ 0 → q20 m (b_list m c) (b_list m d) lent ≡ true
   unfolding refusal_from asks_delays of_given_delays numbered
   given_so lent z = (each_yes (of_given_delays m c d lent) refl (stages_so (of_shares m c d) (of_given_delays m c d lent) (shares_numbered m c d) z).1).0
 
@@ -94,18 +99,18 @@ module _ (m : ℕ) (f : List ℕ) where
   abbrev paid : List ℤ
   paid = (set_of m f).paid
 
-  module _ (given : Bool) (lent : List ℤ) where
+  module _ (given : Option (List ℤ)) where
     -- a file that the reader refuses
-    pub unread : {n : ℕ} (p : List ℤ) → n ≡ read_refusal m f → (n ≡ 0 → ⊥) → ReadDelays m f given lent n p p
+    pub unread : {n : ℕ} (p : List ℤ) → n ≡ read_refusal m f → (n ≡ 0 → ⊥) → ReadDelays m f given n p p
     unread p e o = record {
-      refusal = e ∙ sym (by_file m f [] (of_shares m counts paid ++ asks_delays m counts paid given lent) (λ z. o (e ∙ z)));
+      refusal = e ∙ sym (by_file m f [] (of_shares m counts paid ++ asks_delays m counts paid given) (λ z. o (e ∙ z)));
       delays_are = sym (if_refused _ _ _ o);
     }
 
     -- one that it reads
-    pub from_pair : read_refusal m f ≡ 0 → call_refusal m f [] (of_shares m counts paid ++ asks_delays m counts paid given lent) ≡ refusal_from m counts paid given lent
+    pub from_pair : read_refusal m f ≡ 0 → call_refusal m f [] (of_shares m counts paid ++ asks_delays m counts paid given) ≡ refusal_from m counts paid given
     unfolding refusal_from numbered
-    from_pair read = by_set m f [] (of_shares m counts paid ++ asks_delays m counts paid given lent) refl read (no_refusal [] tt)
+    from_pair read = by_set m f [] (of_shares m counts paid ++ asks_delays m counts paid given) refl read (no_refusal [] tt)
 
   pub delays_refusal_lem : (delays_answer m f).refusal ≡ delays_refusal m f
   unfolding delays_answer
@@ -120,12 +125,12 @@ module _ (m : ℕ) (f : List ℕ) where
   unfolding delays_answer set_of
   delays_line e x = rw (e ∙ delays_refusal_lem) (beside (delays_refusal m f) (accepted_delays (set_of m f).line (delays_of m (set_of m f))) _ (λ (a : DelaysAnswer). a.line) x)
 
-  pub as_solved : {n : ℕ} {lent before p : List ℤ} → ReadDelays m f false lent n before p → (n ≡ (delays_answer m f).refusal) × (p ≡ if_accepted n (delays_answer m f).p before)
+  pub as_solved : {n : ℕ} {before p : List ℤ} → ReadDelays m f None n before p → (n ≡ (delays_answer m f).refusal) × (p ≡ if_accepted n (delays_answer m f).p before)
   unfolding delays_refusal delays_of asks_delays delays_from
   as_solved {before = before} made =
       (made.refusal ∙ sym delays_refusal_lem, made.delays_are ∙ delays_beside before made.refusal)
 
-  pub as_checked : {n line : ℕ} {lent before p : List ℤ} → ReadDelays m f true lent n before p → line ≡ if_accepted n (line_of f) 0 → record { refusal = n; line = line } ≡ check_delays_answer m f lent
+  pub as_checked : {n line : ℕ} {lent before p : List ℤ} → ReadDelays m f (Some lent) n before p → line ≡ if_accepted n (line_of f) 0 → record { refusal = n; line = line } ≡ check_delays_answer m f lent
   unfolding check_delays_answer check_delays_refusal asks_delays set_of
   as_checked {n} {lent = lent} made l = rw (l, made.refusal) (by_test (eqb (check_delays_refusal m f lent) 0) (λ t. rw (t, eqb-true (check_delays_refusal m f lent) 0 t)) (λ t. rw t))
 

@@ -1,5 +1,6 @@
 -- Examples, 01's and our own, that no must-fail edit of a definition needs: so that an edit does
--- not compute them again, they stand in a crate of their own. Agreement: where 01 says a thing twice.
+-- not compute them again, they stand in a crate of their own. Agreement: where 01 says a thing
+-- twice.
 pub mod Sets
 pub mod Forecasts
 pub mod Others

@@ -1,8 +1,7 @@
 -- Laws of the forecast of a file: its refusal question by question, and its whole contract from the
 -- forecast of the set. Assumes nothing.
-use Rattle.std.specs.Prelude.{◌≡◌, refl, Bool, ℕ, ◌≤◌, ◌<◌, ℤ, length}
+use Rattle.std.specs.Prelude.{◌≡◌, refl, Option, Some, None, ℕ, ◌≤◌, ◌<◌, ℤ, length}
 use Rattle.std.proofs.Common.{sym, ◌∙◌}
-use Rattle.std.proofs.Math.Bool.{true, false}
 use mathlib.Core.List.{List, [], ◌∷◌}
 use borrow.Author.Tests.{le-leb, lt-leb, leb-true}
 use Rattle.model.specs.Records.{line_of, set_of, has_incurred}
@@ -20,12 +19,12 @@ use Rattle.delays.specs.Prepared.{asks_delays}
 use Rattle.set_forecast.specs.SetForecast.{Answered, set_refusal, of_either, either_delays}
 
 -- with the delays from either side
-module _ (m : ℕ) (f : List ℕ) (method basis : ℕ) (given : Bool) (lent before : List ℤ) where
+module _ (m : ℕ) (f : List ℕ) (method basis : ℕ) (given : Option (List ℤ)) (before : List ℤ) where
   abbrev s : TriangleSet
   s = set_of m f
 
   abbrev own : List Question
-  own = of_either m s given lent method
+  own = of_either m s given method
 
   abbrev refusal : ℕ
   refusal = call_refusal m f ((6, q6 (has_incurred m f) method basis) ∷ (7, q7 m (length before)) ∷ []) own
@@ -56,7 +55,7 @@ module _ (m : ℕ) (f : List ℕ) (method basis : ℕ) (given : Bool) (lent befo
   Into n left lefts after =
       (n ≡ answer.refusal)
       × ((lefts ≡ if_accepted n answer.leftovers left)
-      × ((after ≡ if_accepted refusal (output_from m s (either_delays m s given lent) method basis before) before)
+      × ((after ≡ if_accepted refusal (output_from m s (either_delays m s given) method basis before) before)
       × (n ≡ 0 → method ≡ 0 → basis ≡ 1 → NearReserves m s.paid after)))
 
   number_is : answer.refusal ≡ refusal
@@ -76,10 +75,10 @@ module _ (m : ℕ) (f : List ℕ) (method basis : ℕ) (given : Bool) (lent befo
 
   -- what the forecast of the file's set t answers and writes is the file's
   pub forecasted : settings ≡ 0 → size m ≤ length before → {t : TriangleSet} → t ≡ s → {n : ℕ} {left lefts after : List ℤ}
-      → Answered (first_no (of_either m t given lent method)) m t (either_delays m t given lent) method basis n left lefts before after
+      → Answered (first_no (of_either m t given method)) m t (either_delays m t given) method basis n left lefts before after
       → (n ≡ 0 → method ≡ 0 → basis ≡ 1 → NearReserves m t.paid after) → Into n left lefts after
   forecasted passed room {t} is {n} {left} {lefts} {after} made near =
-      let a : Answered (first_no own) m s (either_delays m s given lent) method basis n left lefts before after = rw is at made in
+      let a : Answered (first_no own) m s (either_delays m s given) method basis n left lefts before after = rw is at made in
       let e : n ≡ refusal = a.refusal ∙ sym (by_set passed room) in
       (e ∙ sym number_is, (a.leftovers_are ∙ lefts_beside left e, (a.output ∙ rw e, rw is at near)))
 
@@ -94,11 +93,11 @@ module _ (m : ℕ) (f : List ℕ) (method basis : ℕ) (given : Bool) (lent befo
 module _ (m : ℕ) (f : List ℕ) (method basis : ℕ) (before : List ℤ) {n : ℕ} where
   pub forecast_line : n ≡ (forecast_answer m f method basis (length before)).refusal → (x : ℕ) → if_accepted n (line_of f) x ≡ if_accepted n (forecast_answer m f method basis (length before)).line x
   unfolding forecast_refusal forecast_answer of_forecast of_either asks_delays delays_of
-  forecast_line = line_beside m f method basis false [] before
+  forecast_line = line_beside m f method basis None before
 
   pub forecast_with_line : (p : List ℤ) → n ≡ (forecast_with_answer m f method basis p (length before)).refusal → (x : ℕ) → if_accepted n (line_of f) x ≡ if_accepted n (forecast_with_answer m f method basis p (length before)).line x
   unfolding forecast_with_refusal forecast_with_answer of_forecast_with of_either asks_delays
-  forecast_with_line p = line_beside m f method basis true p before
+  forecast_with_line p = line_beside m f method basis (Some p) before
 
 -- with those solved here
 module _ (m : ℕ) (f : List ℕ) (method basis : ℕ) (before : List ℤ) where

@@ -11,16 +11,11 @@ use dates::{anniversary, day_number, is_date};
 use model::Date;
 
 // Whether a valuation date is possible and of the years 1900 to 2199.
+#[tactic(auto, unfolding(model::specs::Questions::is_valuation))]
 fn is_valuation(date: Date) -> bool
     ensures { result ≡ is_valuation date }
 {
-    if !is_date(date) {
-        return false;
-    }
-    if date.year < 1900 {
-        return false;
-    }
-    date.year <= 2199
+    is_date(date) && (1900..=2199).contains(&date.year)
 }
 
 // The number of anniversary t of a valuation date: the day on which forecast year t + 1 starts.
@@ -51,60 +46,41 @@ pub fn forecast_year(valuation: Date, date: Date, day: u64) -> ForecastYear
     let start = year_start(valuation, years);
     if day < start {
         let ended = years - 1;
-        return ForecastYear {
+        ForecastYear {
             ended,
             start: year_start(valuation, ended),
             next: start,
-        };
-    }
-    ForecastYear {
-        ended: years,
-        start,
-        next: year_start(valuation, years + 1),
+        }
+    } else {
+        ForecastYear {
+            ended: years,
+            start,
+            next: year_start(valuation, years + 1),
+        }
     }
 }
 
 // Question 19 of the window's two dates, where all three are possible. No forecast year goes past
 // 2237.
+#[tactic(auto, unfolding(model::specs::Questions::in_years))]
 fn in_years(m: usize, valuation: Date, start: Date, end: Date) -> bool
     requires { (is_valuation valuation ≡ true) × (is_date start ≡ true) × (is_date end ≡ true) × (2 ≤ m) × (m ≤ 20) }
     ensures { result ≡ in_years m valuation start end }
 {
-    if 2237 < start.year {
-        return false;
-    }
-    if 2237 < end.year {
+    if 2237 < start.year || 2237 < end.year {
         return false;
     }
     let from = day_number(start);
     let to = day_number(end);
-    if from < day_number(valuation) {
-        return false;
-    }
-    if to < from {
-        return false;
-    }
-    let years = 2 * m - 2;
-    let last = year_start(valuation, years as u64);
-    if last <= from {
-        return false;
-    }
-    to <= last
+    let last = year_start(valuation, 2 * m as u64 - 2);
+    day_number(valuation) <= from && from <= to && from < last && to <= last
 }
 
-// Question 19.
+// Question 19. The three dates go one by one, as in the public call of cash by dates.
+#[tactic(auto, unfolding(model::specs::Questions::q19))]
 pub fn q19(m: usize, valuation: Date, start: Date, end: Date) -> bool
     requires { (2 ≤ m) × (m ≤ 20) }
     ensures { result ≡ q19 m valuation start end }
 {
-    if !is_valuation(valuation) {
-        return false;
-    }
-    if !is_date(start) {
-        return false;
-    }
-    if !is_date(end) {
-        return false;
-    }
-    in_years(m, valuation, start, end)
+    is_valuation(valuation) && is_date(start) && is_date(end) && in_years(m, valuation, start, end)
 }

@@ -7,11 +7,16 @@ use Rattle.std.proofs.Math.Bool.{cond}
 use Prim.Native.Nat.{ℕ, zero, suc, ◌+◌, ◌-◌, ◌*◌, ◌^◌, ◌≤◌, ◌<◌}
 use Rattle.std.proofs.Math.IntN.{nat_abs, +ℤ_idl, +ℤ_idr}
 use Rattle.integers.specs.Sums.{sum, sum_suc, sum_cong, sum_nothing, sum_nat_abs}
-use Rattle.model.specs.Lists.{total}
+use Rattle.std.proofs.Common.{w64, to_z, of_z}
+use Rattle.rounding.specs.Running.{sum_add}
+use mir.Val.{SFits}
+use Rattle.rounding.specs.Words.{fits_abs}
+use Rattle.model.specs.Lists.{total, at}
 use Rattle.model.specs.ListsLaws.{total_ext}
 use Rattle.model.specs.Records.{cell}
 use Rattle.model.specs.BackTest.{cellwise, year_gap, yearwise, overall}
 use Rattle.model.specs.Tests.{by_test}
+use Rattle.cells.specs.SmallLaws.{read_back}
 use Rattle.gaps.specs.Gaps.{SmallGaps, row_in_year}
 
 -- ---- totals
@@ -66,6 +71,19 @@ module _ (a e : ℕ) (f : ℕ → ℤ) where
       (λ u. let b = ltb-true (e - a) n u in rw (one_picked n (e - a) b (omega arith)) (h (e - a) b))
       (λ u. let b = ltb-false (e - a) n u in rw (none_picked n (λ j k z. omega arith)) (omega arith)))
       (λ t. let l = leb-false a e t in rw (none_picked n (λ j k z. omega arith)) (omega arith))
+
+-- ---- the gap of cell (k + 1, j), as it is read
+pub gap_back : (d : List ℤ) → SmallGaps d → (k j : ℕ) → k < 20 → j < 20 → to_z w64 (of_z w64 (at d (20 * k + j))) ≡ cell d (suc k) j
+gap_back d small k j h l =
+    let e : 20 * k + j ≡ 20 * (suc k - 1) + j = omega arith in
+    rw e (read_back (cell d (suc k) j) (omega (arith, small.gap k j h l)))
+
+-- one more number in a sum, as a word
+pub more_fits : (k : ℕ) (f : ℕ → ℤ) {a x : ℤ} → a ≡ sum k f → x ≡ f k → nat_abs (sum (k + 1) f) ≤ 20 * (20 * (5 * 10 ^ 15)) → SFits w64 (a +ℤ x)
+more_fits k f e q h = rw (sum_add k f e q) (fits_abs (omega (arith, h)))
+
+pub more_is : (k : ℕ) (f : ℕ → ℤ) {a x : ℤ} → a ≡ sum k f → x ≡ f k → nat_abs (sum (k + 1) f) ≤ 20 * (20 * (5 * 10 ^ 15)) → to_z w64 (of_z w64 (a +ℤ x)) ≡ sum (k + 1) f
+more_is k f e q h = rw (sum_add k f e q) (read_back (sum (k + 1) f) (omega (arith, h)))
 
 -- ---- the sizes of the sums
 module _ (d : List ℤ) (small : SmallGaps d) (n : ℕ) (few : n ≤ 20) where

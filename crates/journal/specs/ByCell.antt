@@ -23,7 +23,7 @@ use Rattle.model.specs.Journal.{transaction_at, booked_at, cell_after, q16, q17,
 use Rattle.model.specs.declared.JournalTally.{JournalTally}
 use Rattle.model.specs.declared.Transaction.{Transaction}
 use Rattle.triangles.specs.Stores.{get_d_set}
-use Rattle.booking.specs.Parts.{Good}
+use Rattle.booking.specs.Good.{Good}
 use Rattle.booking.specs.Fields.{one_of, good}
 use Rattle.journal.specs.Turns.{accepted_at}
 

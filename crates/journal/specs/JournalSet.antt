@@ -1,5 +1,5 @@
--- The triangles of an accepted journal are a set on whatever line: the writer refuses it for nothing
--- but want of room, and it reads back the same. Assumes nothing.
+-- The triangles of an accepted journal are a set on whatever line: the writer refuses it for
+-- nothing but want of room, and it reads back the same. Assumes nothing.
 use Rattle.std.specs.Prelude.{ℕ, ◌+◌, ◌-◌, ◌*◌, ◌≤◌, ◌≡◌, true, cond, List, ℤ, pos, replicate}
 use Rattle.std.proofs.Common.{arith, subst}
 use Rattle.std.proofs.Math.Bool.{false}

@@ -1,16 +1,7 @@
 -- A list that is filled from a place backwards: places j to m - 1 of n hold f, the others 0.
 -- Assumes nothing.
-use mathlib.Core.Path.{◌≡◌, refl, sym, ◌∙◌, ap₂}
-use mathlib.Core.Bool.{Bool, true, false, ◌&&◌, cond}
-use mathlib.Core.List.{List}
-use mathlib.Core.Logic.{⊎_elim}
-use Prim.Native.Nat.{ℕ, suc, ◌≤◌, ◌<◌}
-use native.Mathlib.Nat.{eq-or-lt_of_le}
-use native.Mathlib.Omega.{arith}
-use borrow.Author.Tests.{le-leb, lt-leb, lt-ltb, le-ltb, leb-true, leb-false}
-use lib.Dec.{leb, ltb}
-use lib.IntN.{ℤ, pos}
-use lib.ListN.{set, replicate}
+use Rattle.std.proofs.Common.{◌≡◌, refl, sym, ◌∙◌, ap₂, Bool, true, false, ◌&&◌, cond, List, ⊎_elim, ℕ, suc, ◌≤◌, ◌<◌, eq-or-lt_of_le, arith, le-leb, lt-ltb, le-ltb, leb-true, leb-false, leb, ltb, ℤ, pos, set, replicate}
+use borrow.Author.Tests.{lt-leb}
 use Rattle.model.specs.Lists.{tabulate, listed, at}
 use Rattle.model.specs.ListsLaws.{tabulate_ext, set_tabulate, listed_none, get_d_tabulate}
 

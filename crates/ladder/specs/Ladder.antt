@@ -1,21 +1,19 @@
 -- The chain ladder from the lists of a triangle's sums, and what its functions ask of these.
-use Rattle.std.specs.Prelude.{ℕ, zero, suc, ◌-◌, ◌*◌, ◌^◌, ◌≤◌, ◌<◌, Bool, true, cond, List, ℤ, pos, nat_abs, ◌-ℤ◌, ◌*ℤ◌, ◌≡◌}
+use Rattle.std.specs.Prelude.{ℕ, zero, suc, ◌-◌, ◌*◌, ◌^◌, ◌≤◌, ◌<◌, Bool, true, false, cond, List, ℤ, pos, nat_abs, ◌-ℤ◌, ◌*ℤ◌, ◌≡◌, Option, Some, None, MatchOption}
 use Rattle.integers.specs.Parts.{◌⩽◌, ◌⋖◌}
 use Rattle.model.specs.Lists.{at, listed, every}
 use Rattle.model.specs.Rounding.{S, r}
 use Rattle.model.specs.Shares.{g_list}
 use Rattle.model.specs.Questions.{within}
 use Rattle.ladder.specs.Sums.{latests}
-use Rattle.ladder.specs.declared.Share.{Share}
-use Rattle.ladder.specs.declared.Share.TheVariants.{Inside, Outside}
 
 -- a cumulative share is from 10^6 to 4 × 10^9
 abbrev pub bounded : ℤ → Bool
 bounded z = within (pos (10 ^ 6)) (pos (4 * 10 ^ 9)) z
 
 -- the share, where it is
-unfoldable pub share_in : ℤ → Share
-share_in z = cond (bounded z) (Inside z) Outside
+unfoldable pub share_in : ℤ → Option ℤ
+share_in z = cond (bounded z) (Some z) None
 
 -- n steps down from g(m-1), where a and b hold A(j) and B(j) at place j - 1
 unfoldable pub steps_down : ℕ → List ℤ → List ℤ → ℕ → ℤ
@@ -26,10 +24,10 @@ steps_down m a b (suc n) = r (steps_down m a b n *ℤ at a (m - 1 - suc n)) (at 
 unfoldable pub g_of : ℕ → List ℤ → List ℤ → ℕ → ℤ
 g_of m a b j = steps_down m a b (m - 1 - j)
 
--- whether each g(j) is in its bounds, and where each is, the list of them
-pub record Bounded (m : ℕ) (g : ℕ → ℤ) (ok : Bool) (list : List ℤ) : Type 0 where
-  pub answer : ok ≡ every m (λ j. bounded (g j))
-  pub listed_all : ok ≡ true → list ≡ listed 20 m g (pos 0)
+-- the list of the g(j), where each is in its bounds
+abbrev pub Bounded : ℕ → (ℕ → ℤ) → Option (List ℤ) → Type 0
+Bounded m g given =
+    MatchOption given (every m (λ j. bounded (g j)) ≡ false) (λ list. (every m (λ j. bounded (g j)) ≡ true) × (list ≡ listed 20 m g (pos 0)))
 
 -- the sums that the steps divide: at most 4 × 10^12, and those divided by above zero
 pub record Steps (m : ℕ) (a b : List ℤ) : Type 0 where

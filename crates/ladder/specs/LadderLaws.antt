@@ -1,6 +1,6 @@
 -- Laws of Ladder, and that the chain ladder from a triangle's lists is that of the triangle.
 -- Assumes nothing.
-use Rattle.std.specs.Prelude.{◌≡◌, Bool, true, false, cond, List, ℤ, pos, negsuc, nat_abs, ◌*ℤ◌}
+use Rattle.std.specs.Prelude.{◌≡◌, Bool, true, false, cond, List, ℤ, pos, negsuc, nat_abs, ◌*ℤ◌, Option, Some, None}
 use Rattle.std.proofs.Math.Path.{refl}
 use Rattle.std.proofs.Common.{sym, ◌∙◌, ap}
 use Prim.Native.Nat.{ℕ, zero, suc, ◌-◌, ◌*◌, ◌^◌, ◌≤◌, ◌<◌}
@@ -19,7 +19,6 @@ use Rattle.ladder.specs.SharesLaws.{NotNegative, Sound, g_range, g_down_lem, at_
 use Rattle.ladder.specs.Sums.{Small, latests, a_sums, b_sums}
 use Rattle.ladder.specs.SumsLaws.{latest_small, A-small, B-small}
 use Rattle.ladder.specs.Ladder.{bounded, share_in, steps_down, g_of, Bounded, Steps, Ready, difference, grown, Ladder}
-use Rattle.ladder.specs.declared.Share.TheVariants.{Inside, Outside}
 
 -- a cumulative share in its bounds, by its magnitude
 pub bounds_abs : (z : ℤ) → (pos (10 ^ 6) ⩽ z) × (z ⩽ pos (4 * 10 ^ 9)) → (pos 0 ⋖ z) × (10 ^ 6 ≤ nat_abs z) × (nat_abs z ≤ 4 * 10 ^ 9)
@@ -30,19 +29,19 @@ pub bounded_so : (z : ℤ) → bounded z ≡ true → (pos (10 ^ 6) ⩽ z) × (z
 bounded_so z e = within_so (pos (10 ^ 6)) (pos (4 * 10 ^ 9)) z e
 
 -- what each answer says of a share
-inside_if : (t : Bool) (z k : ℤ) → cond t (Inside z) Outside ≡ Inside k → (z ≡ k) × (t ≡ true)
+inside_if : (t : Bool) (z k : ℤ) → cond t (Some z) None ≡ Some k → (z ≡ k) × (t ≡ true)
 inside_if true z k e = (cc, refl)
-inside_if false z k e = let n : ◌≡◌ {A = ℕ} 0 1 = cc in absurd (omega arith)
+inside_if false z k e = absurd cc
 
-pub inside_is : (z k : ℤ) → share_in z ≡ Inside k → (z ≡ k) × (bounded z ≡ true)
+pub inside_is : (z k : ℤ) → share_in z ≡ Some k → (z ≡ k) × (bounded z ≡ true)
 unfolding share_in
 inside_is z k e = inside_if (bounded z) z k e
 
-outside_if : (t : Bool) (z : ℤ) → cond t (Inside z) Outside ≡ Outside → t ≡ false
-outside_if true z e = let n : ◌≡◌ {A = ℕ} 0 1 = cc in absurd (omega arith)
+outside_if : (t : Bool) (z : ℤ) → cond t (Some z) None ≡ None → t ≡ false
+outside_if true z e = absurd cc
 outside_if false z e = refl
 
-pub outside_is : (z : ℤ) → share_in z ≡ Outside → bounded z ≡ false
+pub outside_is : (z : ℤ) → share_in z ≡ None → bounded z ≡ false
 unfolding share_in
 outside_is z e = outside_if (bounded z) z e
 
@@ -152,16 +151,17 @@ pub above : {x : ℤ} → pos (10 ^ 6) ⩽ x → pos 0 ⋖ x
 above h = omega (arith, ints)
 
 module _ (m : ℕ) (t : List ℤ) (some : 1 ≤ m) (small : Small m (10 ^ 10) t) where
-  -- the answer and the list of the cumulative shares from the sums
-  module _ {ok : Bool} {list : List ℤ} (made : Bounded m (g_of m (a_sums m t) (b_sums m t)) ok list) where
-    pub bounds_are : ok ≡ every m (λ j. bounded (g m t j))
-    bounds_are =
-        made.answer
-        ∙ every_ext (λ j. bounded (g_of m (a_sums m t) (b_sums m t) j)) (λ j. bounded (g m t j)) m (λ j h. ap bounded (g_of_is m t small.few j h))
+  -- the cumulative shares from the sums are those of the triangle
+  same_bounds : every m (λ j. bounded (g_of m (a_sums m t) (b_sums m t) j)) ≡ every m (λ j. bounded (g m t j))
+  same_bounds = every_ext (λ j. bounded (g_of m (a_sums m t) (b_sums m t) j)) (λ j. bounded (g m t j)) m (λ j h. ap bounded (g_of_is m t small.few j h))
 
-    pub list_is : ok ≡ true → list ≡ g_list m t
-    unfolding g_list
-    list_is e = made.listed_all e ∙ listed_ext 20 m (g_of m (a_sums m t) (b_sums m t)) (g m t) (pos 0) (g_of_is m t small.few)
+  pub bounds_are : (given : Option (List ℤ)) → Bounded m (g_of m (a_sums m t) (b_sums m t)) given → Bounded m (g m t) given
+  bounds_are (Some list) h = (rw same_bounds at h.0, h.1 ∙ listed_ext 20 m (g_of m (a_sums m t) (b_sums m t)) (g m t) (pos 0) (g_of_is m t small.few))
+  bounds_are None h = rw same_bounds at h
+
+  pub list_is : (list : List ℤ) → Bounded m (g_of m (a_sums m t) (b_sums m t)) (Some list) → list ≡ g_list m t
+  unfolding g_list
+  list_is list h = (bounds_are (Some list) h).1
 
   pub steps : ((j : ℕ) → 1 ≤ j → j < m → pos 0 ⋖ B m t j) → Steps m (a_sums m t) (b_sums m t)
   steps columns = record {

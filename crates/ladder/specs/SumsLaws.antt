@@ -1,6 +1,6 @@
 -- Laws of a triangle's sums: how they go on from delay to delay, and how large they get. Assumes
 -- nothing.
-use Rattle.std.specs.Prelude.{◌≡◌, List, [], ◌∷◌, ℤ, nat_abs, ◌+ℤ◌, ◌-ℤ◌}
+use Rattle.std.specs.Prelude.{◌≡◌, List, [], ◌∷◌, length, ℤ, nat_abs, ◌+ℤ◌, ◌-ℤ◌}
 use Rattle.std.proofs.Common.{sym, ◌∙◌, mul-le-mul_right}
 use Prim.Native.Nat.{ℕ, suc, ◌+◌, ◌-◌, ◌*◌, ◌^◌, ◌≤◌, ◌<◌}
 use Rattle.std.proofs.Math.Nat.{sub-zero}
@@ -11,6 +11,8 @@ use Rattle.model.specs.Lists.{at}
 use Rattle.model.specs.Records.{cell}
 use Rattle.model.specs.Lent.{triangle_in, at_triangle}
 use Rattle.model.specs.Shares.{C, latest, A, B}
+use Rattle.rounding.specs.Running.{sum_fits}
+use Rattle.arithmetic.specs.Spaced as Arithmetic
 use Rattle.ladder.specs.Sums.{Small, Spaced}
 
 C-first : (t : List ℤ) (i : ℕ) → C t i 0 ≡ cell t i 0
@@ -81,6 +83,10 @@ module _ (set : List ℤ) (kind : ℕ) where
           places = λ i l. omega (arith, small.few);
           cells = λ i l. rw (column_cell j i (omega (arith, small.few)) (omega (arith, small.few))) (small.cells (suc i) j (omega arith) (omega arith));
         }
+
+-- what `arithmetic::spaced_sum` asks of the cells of a lent set
+pub running : {a d n : ℕ} {set : List ℤ} → length set ≡ 1200 → Spaced a d n set → Arithmetic.Spaced a d n set
+running e s = record { places = λ k h. rw e (s.places k h); fits = λ k h. sum_fits k _ (omega (arith, s.few)) (λ i l. s.cells i (omega arith)) }
 
 -- a sum of at most 20 numbers
 few_small : (k n c : ℕ) → k ≤ 20 → n ≤ k * c → n ≤ 20 * c

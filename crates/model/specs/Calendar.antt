@@ -1,13 +1,11 @@
 -- 01, Calendar years and the program. One cell added to a tally is TallyAdd of `year_tally`.
-use Rattle.std.specs.Prelude.{ℕ, zero, suc, ◌+◌, ◌-◌, ◌*◌, ◌/◌, ◌%◌, true, false, ◌&&◌, cond, List, [], ◌∷◌, ◌++◌, ltb, leb, eqb, ℤ, pos, negsuc, ◌+ℤ◌, length, get_or, drop, replicate}
+use Rattle.std.specs.Prelude.{ℕ, zero, suc, ◌+◌, ◌-◌, ◌*◌, ◌/◌, ◌%◌, true, false, ◌&&◌, cond, List, [], ◌∷◌, ◌++◌, Option, Some, None, ltb, leb, eqb, ℤ, pos, negsuc, ◌+ℤ◌, length, get_or, drop, replicate}
 use Rattle.integers.specs.Sums.{sum}
 use Rattle.year_tally.specs.TallyAdd.{tally_add}
 use Rattle.year_tally.specs.declared.Tally.{Tally}
 use Rattle.model.specs.Lists.{at}
 use Rattle.model.specs.declared.Run.{Run}
-use Rattle.model.specs.declared.Run.TheVariants.{Number, Wrong}
-use Rattle.model.specs.declared.FirstLine.{FirstLine}
-use Rattle.model.specs.declared.FirstLine.TheVariants.{Asked, Refused}
+use Rattle.model.specs.declared.Asked.{Asked}
 
 -- the tally before any cell
 abbrev pub empty_tally : Tally
@@ -77,32 +75,32 @@ value_from v (b ∷ s) = value_from (v * 10 + (b - 48)) s
 
 -- a run of one to four digits at place a of s with the byte `end` behind it: its number, and the
 -- place after that byte
-unfoldable pub run_at : List ℕ → ℕ → ℕ → Run
+unfoldable pub run_at : List ℕ → ℕ → ℕ → Option Run
 run_at s a end =
     let d = front (drop a s) in
-    cond (leb 1 (length d) && leb (length d) 4 && eqb (get_or s (a + length d) 0) end) (Number (value_from 0 d) (a + length d + 1)) Wrong
+    cond (leb 1 (length d) && leb (length d) 4 && eqb (get_or s (a + length d) 0) end) (Some (record { number = value_from 0 d; next = a + length d + 1 })) None
 
 -- what is asked, by the third run, which a newline ends
-unfoldable pub third : ℕ → ℕ → Run → FirstLine
-third m method Wrong = Refused
-third m method (Number basis a) = Asked m method basis a
+unfoldable pub third : ℕ → ℕ → Option Run → Option Asked
+third m method None = None
+third m method (Some r) = Some (record { m = m; method = method; basis = r.number; start = r.next })
 
 -- by the second run, which a space ends
-unfoldable pub second : List ℕ → ℕ → Run → FirstLine
-second s m Wrong = Refused
-second s m (Number method a) = third m method (run_at s a 10)
+unfoldable pub second : List ℕ → ℕ → Option Run → Option Asked
+second s m None = None
+second s m (Some r) = third m r.number (run_at s r.next 10)
 
 -- by the first run, which a space ends
-unfoldable pub first : List ℕ → Run → FirstLine
-first s Wrong = Refused
-first s (Number m a) = second s m (run_at s a 32)
+unfoldable pub first : List ℕ → Option Run → Option Asked
+first s None = None
+first s (Some r) = second s r.number (run_at s r.next 32)
 
--- what the first line asks: m, method, basis, and where the file starts; refused unless it is three
+-- what the first line asks: m, method, basis, and where the file starts; None unless it is three
 -- runs and nothing else
-unfoldable pub first_line : List ℕ → FirstLine
+unfoldable pub first_line : List ℕ → Option Asked
 first_line s = first s (run_at s 0 32)
 
 -- the refusal number of each case, 0 for none
-unfoldable pub refusal_of : FirstLine → ℕ
-refusal_of (Asked m method basis a) = 0
-refusal_of Refused = 1
+unfoldable pub refusal_of : Option Asked → ℕ
+refusal_of None = 1
+refusal_of (Some a) = 0

@@ -1,7 +1,7 @@
 -- The whole answer of each public call, refusals included: what it hands back, and what the lent
--- memory holds afterwards. A call that takes one set's file, but for the closing page and `closing`,
--- hands back the set's line of cover too (02, Job 7).
-use Rattle.std.specs.Prelude.{ℕ, ◌-◌, ◌*◌, ◌≤◌, ◌≡◌, Bool, false, cond, List, [], ◌∷◌, ◌++◌, eqb, leb, ℤ, pos, length, take, drop, replicate}
+-- memory holds afterwards. A call that takes one set's file, but for the closing page and
+-- `closing`, hands back the set's line of cover too (02, Job 7).
+use Rattle.std.specs.Prelude.{ℕ, ◌-◌, ◌*◌, ◌≤◌, ◌≡◌, Bool, false, cond, List, [], ◌∷◌, ◌++◌, Option, Some, None, eqb, leb, ℤ, pos, length, take, drop, replicate}
 use Rattle.model.specs.Records.{triangle, records, set_of, given_set, set_length, has_incurred, is_line}
 use Rattle.model.specs.SetFile.{file_of}
 use Rattle.model.specs.Journal.{of_transaction, booked, tally_after, q16_length, of_transactions, reports, payments}
@@ -30,8 +30,7 @@ use Rattle.year_tally.specs.declared.Tally.{Tally}
 use Rattle.model.specs.declared.Date.{Date}
 use Rattle.model.specs.declared.CashAnswer.{CashAnswer}
 use Rattle.model.specs.declared.Transaction.{Transaction}
-use Rattle.model.specs.declared.FirstLine.{FirstLine}
-use Rattle.model.specs.declared.FirstLine.TheVariants.{Asked, Refused}
+use Rattle.model.specs.declared.Asked.{Asked}
 
 -- what a call with the refusal number n hands back: that of an accepted call where n is 0, else
 -- that of a refused one
@@ -233,9 +232,9 @@ file_text m f method basis =
     if_accepted n (tally_text m (file_tally m f method basis)) (refusal_text n)
 
 -- for the input s, whose first line asks this
-unfoldable pub closing_of : List ℕ → FirstLine → List ℕ
-closing_of s Refused = refusal_text (refusal_of Refused)
-closing_of s (Asked m method basis a) = file_text m (drop a s) method basis
+unfoldable pub closing_of : List ℕ → Option Asked → List ℕ
+closing_of s None = refusal_text (refusal_of None)
+closing_of s (Some a) = file_text a.m (drop a.start s) a.method a.basis
 
 unfoldable pub closing_text : List ℕ → List ℕ
 closing_text s = closing_of s (first_line s)

@@ -1,5 +1,5 @@
--- Laws of Cells: how many entries there are, and where a cell stands in the output. Which delays it is
--- made of is SameDelays of proofs/. Assumes nothing.
+-- Laws of Cells: how many entries there are, and where a cell stands in the output. Which delays it
+-- is made of is SameDelays of proofs/. Assumes nothing.
 use Rattle.std.specs.Prelude.{◌≡◌, ℕ, ◌+◌, ◌-◌, ◌*◌, ◌/◌, ◌%◌, ◌≤◌, ◌<◌, ℤ, pos}
 use Rattle.std.proofs.Common.{◌∙◌, mul_assoc, mul-le-mul}
 use mathlib.Core.List.{List}

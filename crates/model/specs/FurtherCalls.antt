@@ -41,8 +41,8 @@ short = (refl, refl)
 abbrev given : ℤ → ℤ → ℤ → List ℤ
 given x y z = lent_cells (less (2 ^ 63)) x y z
 
--- 02, Job 2: the file of K without incurred, by kind, year and delay; and Job 7: each record has the
--- line
+-- 02, Job 2: the file of K without incurred, by kind, year and delay; and Job 7: each record has
+-- the line
 pub written_order :
     write_output 2 3 false (given (pos 80) (pos 20) (pos 90)) (given (pos 600) (pos 400) (pos 660)) (given (pos 900) (pos 100) (pos 1080)) (replicate 96 7)
     ≡ relined 3 (two 0 80 20 90 ++ two 1 600 400 660)

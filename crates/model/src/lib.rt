@@ -3,7 +3,8 @@
 #![tactic(auto)]
 
 // A set of triangles: its line of cover (02, Job 7), 0 to 5, and cell (i,j) at 20 × (i-1) + j, with
-// zeros in the other places. `has_incurred` says that incurred is there beside counts and paid.
+// zeros in the other places. `has_incurred` says that incurred is there beside counts and paid;
+// where it is not, incurred has zeros (`set_of`), and so no `Option`, which C has not either.
 #[derive(Clone, Copy)]
 pub struct TriangleSet {
     pub line: u64,
@@ -14,7 +15,9 @@ pub struct TriangleSet {
 }
 
 // What the reader hands back. A refusal of 0 says that the file is accepted. In this and in every
-// answer below the line is that of the set, and 0 beside a refusal.
+// answer below the line is that of the set, and 0 beside a refusal. A refusal is a number here and
+// no `Err`: document 01 has zeros beside it, and the theorems of docs/TRUST.md speak of such
+// answers.
 #[derive(Clone, Copy)]
 pub struct ReadAnswer {
     pub refusal: u64,
@@ -22,7 +25,7 @@ pub struct ReadAnswer {
 }
 
 // Shares and ultimates: b and N of counts; q, g and U of paid. Delay j stands at place j, year i at
-// place i - 1.
+// place i - 1. Lists of 20 serve every m, with zeros behind the last entry: memory is fixed.
 #[derive(Clone, Copy)]
 pub struct SharesAnswer {
     pub refusal: u64,
@@ -111,7 +114,7 @@ pub struct JournalTally {
 }
 
 // A transaction of a journal: kind 0 reports a claim, kind 1 pays an amount; `spare` is the byte
-// that has to be zero.
+// that has to be zero. Any numbers may be handed in, so the kind is one too: question 16 asks.
 #[derive(Clone, Copy)]
 pub struct Transaction {
     pub claim: usize,
@@ -138,17 +141,18 @@ pub struct CashAnswer {
     pub amount: i64,
 }
 
-// A run of digits and the byte after it: the number and the place after that byte.
+// A run of digits and the byte after it: its number, and the place after that byte.
 #[derive(Clone, Copy)]
-pub enum Run {
-    Number(u64, usize),
-    Wrong,
+pub struct Run {
+    pub number: u64,
+    pub next: usize,
 }
 
-// What the first line of `closing` asks: m, the method, the basis, and the place where the file
-// starts.
+// What the first line of `closing` asks, and the place where the file starts.
 #[derive(Clone, Copy)]
-pub enum FirstLine {
-    Asked(u64, u64, u64, usize),
-    Refused,
+pub struct Asked {
+    pub m: u64,
+    pub method: u64,
+    pub basis: u64,
+    pub start: usize,
 }

@@ -3,32 +3,33 @@
 
 ghost use Rattle.std.specs.Prelude.{◌≡◌, length};
 ghost use Rattle.model.specs.Calls.{page_refusal, page_output};
+ghost use Rattle.refusals.specs.Refusals.{refusal_number};
 
 use page_text::write_page;
+use refusals::Refusal;
 use tally::tally_of;
 
 // The closing page of a file, by method and basis, written to the front of the lent page: questions
-// 1 to 6, 15 and 9 to 14. Hands back the refusal number, 0 where it is accepted. The bytes past
-// 136 × m keep their values, and a refusal leaves all as they were.
-pub fn closing_page(file: &[u8], m: usize, method: u64, basis: u64, page: &mut [u8]) -> u64
-    ensures value { result ≡ page_refusal m file.now method basis (length page.old) }
+// 1 to 6, 15 and 9 to 14. The bytes past 136 × m keep their values, and a refusal leaves all as
+// they were.
+pub fn closing_page(
+    file: &[u8],
+    m: usize,
+    method: u64,
+    basis: u64,
+    page: &mut [u8],
+) -> Result<(), Refusal>
+    ensures value { refusal_number result ≡ page_refusal m file.now method basis (length page.old) }
     ensures page_after { page.new ≡ page_output m file.now method basis page.old }
 {
     let mut set = [0i64; 1200];
-    let refusal = forecast::read_to_forecast(file, m, method, basis, &mut set);
-    if refusal != 0 {
-        return refusal;
-    }
+    forecast::read_to_forecast(file, m, method, basis, &mut set)?;
     if page.len() < 136 * m {
-        return 15;
+        return Err(Refusal::PageRoom);
     }
     let mut leftovers = [0i64; 20];
     let mut entries = [0i64; 1560];
-    let refusal = set_forecast::forecast_set(&set, m, method, basis, &mut leftovers, &mut entries);
-    if refusal != 0 {
-        return refusal;
-    }
-    let t = tally_of(&entries, m);
-    write_page(page, m, &t.rbns, &t.ibnr);
-    0
+    set_forecast::forecast_set(&set, m, method, basis, &mut leftovers, &mut entries)?;
+    write_page(page, m, &tally_of(&entries, m));
+    Ok(())
 }

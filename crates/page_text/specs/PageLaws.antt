@@ -15,7 +15,8 @@ use Rattle.year_tally.specs.declared.Tally.{Tally}
 use Rattle.text.specs.Digits.{digits_length}
 use Rattle.text.specs.Amount.{amount_length}
 use Rattle.tally.specs.Printable.{Printable}
-use Rattle.tally_text.specs.TallyTextLaws.{lines_none, lines_next}
+use Rattle.tally_text.specs.declared.Layout.{Layout}
+use Rattle.tally_text.specs.TallyTextLaws.{field_in, sums_in, laid, lines_none, lines_next, lines_same}
 
 -- what stands behind a line's name
 unfoldable pub amounts : ℤ → ℤ → List ℕ
@@ -78,6 +79,28 @@ page_lines_length t (suc n) h fit =
       page_line_length (digits (n + 1)) (year_width (n + 1) (omega arith)) (fit n (omega arith)),
     ))
 
+-- ---- as the lines are laid out: a column is a space and 20 bytes
+
+abbrev pub page_layout : Layout
+page_layout = record { year = 4; amount = 20 }
+
+column_is : (z : ℤ) → fits64 z ≡ true → aligned 21 (amount z) ≡ field_in 20 z
+unfolding aligned field_in
+column_is z f =
+    let n = length (amount z) in
+    let e : 21 - n ≡ suc (20 - n) = omega (arith, amount_length z f) in
+    rw e
+
+pub amounts_laid : {x y : ℤ} → LineFits x y → amounts x y ≡ sums_in 20 x y
+unfolding amounts sums_in
+amounts_laid {x} {y} a = rw (column_is x a.first, column_is y a.second, column_is (x +ℤ y) a.both)
+
+pub page_lines_laid : (t : Tally) (n : ℕ) → ((k : ℕ) → k < n → LineFits (at t.rbns k) (at t.ibnr k)) → lines page_line t n ≡ lines (laid page_layout) t n
+unfolding laid
+page_lines_laid t n fit =
+    lines_same page_line (laid page_layout) t n
+    (λ k l. page_line_is (digits (k + 1)) (at t.rbns k) (at t.ibnr k) ∙ rw (amounts_laid (fit k l)))
+
 -- ---- of a tally whose numbers fit
 
 module _ (m : ℕ) (t : Tally) (least : 2 ≤ m) (few : m ≤ 20) (p : Printable m t) where
@@ -86,6 +109,9 @@ module _ (m : ℕ) (t : Tally) (least : 2 ≤ m) (few : m ≤ 20) (p : Printable
 
   pub total_amounts : LineFits (sum (2 * m - 2) (at t.rbns)) (sum (2 * m - 2) (at t.ibnr))
   total_amounts = record { first = p.first_total (2 * m - 2) (omega arith); second = p.second_total (2 * m - 2) (omega arith); both = p.total }
+
+  pub page_laid : page_text m t ≡ heading ++ (lines (laid page_layout) t (2 * m - 2) ++ ((32 ∷ 65 ∷ 76 ∷ 76 ∷ []) ++ sums_in 20 (sum (2 * m - 2) (at t.rbns)) (sum (2 * m - 2) (at t.ibnr))))
+  page_laid = page_is m t ∙ rw (amounts_laid total_amounts, page_lines_laid t (2 * m - 2) year_amounts)
 
   pub page_length : length (page_text m t) ≡ 136 * m
   unfolding page_text all_lines heading columns aligned

@@ -1,4 +1,5 @@
--- A year's forecast under plain DCL against its unrounded paid chain-ladder reserve. Assumes nothing.
+-- A year's forecast under plain DCL against its unrounded paid chain-ladder reserve. Assumes
+-- nothing.
 use Rattle.std.specs.Prelude.{◌≡◌, List, ℕ, ◌+◌, ◌-◌, ◌≤◌, ℤ}
 use Rattle.std.proofs.Common.{ap}
 use native.Mathlib.Omega.{arith}

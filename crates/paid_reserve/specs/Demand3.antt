@@ -1,5 +1,5 @@
--- Demand 3: the delays that a set's forecast solves for. The distance to the reserve of the forecast
--- as it is written is Demand3 of proofs/. Assumes nothing.
+-- Demand 3: the delays that a set's forecast solves for. The distance to the reserve of the
+-- forecast as it is written is Demand3 of proofs/. Assumes nothing.
 use Rattle.std.specs.Prelude.{ℕ, ◌<◌}
 use Rattle.std.proofs.Common.{arith}
 use Rattle.model.specs.Shares as Shares

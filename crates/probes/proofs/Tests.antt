@@ -1,9 +1,5 @@
 -- What a probe's test of a range says. Assumes nothing.
-use mathlib.Core.Path.{◌≡◌}
-use mathlib.Core.Bool.{true}
-use Prim.Native.Nat.{ℕ, ◌≤◌, ◌<◌}
-use native.Mathlib.Omega.{arith}
-use lib.IntN.{ℤ, pos, negsuc, neg_ℤ, nat_abs}
+use Rattle.std.proofs.Common.{◌≡◌, true, ℕ, ◌≤◌, ◌<◌, arith, ℤ, pos, negsuc, neg_ℤ, nat_abs}
 use Rattle.integers.specs.Parts.{◌⩽◌, ◌⋖◌, ints}
 use Rattle.integers.specs.Order.{pos_mono, nat_abs-≤}
 use Rattle.model.specs.Questions.{within}

@@ -1,10 +1,9 @@
 -- What each probe answers: in its range the rounded quotient, and `outside` elsewhere.
-use Rattle.std.specs.Prelude.{ℕ, ◌*◌, ◌^◌, ◌-◌, Bool, cond, ◌&&◌, leb, ℤ, pos, negsuc, neg_ℤ, ◌*ℤ◌}
+use Rattle.std.specs.Prelude.{ℕ, ◌*◌, ◌^◌, ◌-◌, Bool, cond, ◌&&◌, leb, ℤ, pos, negsuc, neg_ℤ, ◌*ℤ◌, Option}
+use Rattle.std.specs.Option.{unwrap_or}
 use Rattle.model.specs.Questions.{within}
 use Rattle.model.specs.Rounding.{S, r}
 use Rattle.arithmetic.specs.Capped.{capped}
-use Rattle.arithmetic.specs.declared.Capped.{Capped}
-use Rattle.arithmetic.specs.declared.Capped.TheVariants.{Within, TooLarge}
 
 abbrev pub outside : ℤ
 outside = negsuc (2 ^ 63 - 1)
@@ -16,10 +15,9 @@ up_to n x = within (neg_ℤ (pos n)) (pos n) x
 unfoldable pub round_div : ℤ → ℤ → ℤ
 round_div a b = cond (up_to (9 * 10 ^ 18) a && within (pos 1) (pos (10 ^ 18)) b) (r a b) outside
 
--- TooLarge stands as the largest word
-abbrev pub as_number : Capped → ℤ
-as_number (Within k) = k
-as_number TooLarge = pos (2 ^ 63 - 1)
+-- a number past its cap stands as the largest word
+abbrev pub as_number : Option ℤ → ℤ
+as_number k = unwrap_or k (pos (2 ^ 63 - 1))
 
 unfoldable pub share : ℤ → ℤ → ℤ → ℤ
 share g a b =

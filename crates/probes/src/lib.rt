@@ -4,7 +4,7 @@
 
 ghost use Rattle.std.specs.Prelude.{◌≡◌};
 ghost use Rattle.model.specs.Questions.{within};
-ghost use Rattle.probes.specs.Probes.{round_div, share, ultimate, as_number, row_base, cell};
+ghost use Rattle.probes.specs.Probes.{round_div, share, ultimate, row_base, cell};
 
 const OUTSIDE: i64 = -9223372036854775808;
 
@@ -14,11 +14,12 @@ const TOO_LARGE: i64 = 9223372036854775807;
 fn lies_within(low: i64, high: i64, x: i64) -> bool
     ensures { result ≡ within low high x }
 {
-    if low <= x { x <= high } else { false }
+    low <= x && x <= high
 }
 
 // The rounded quotient of a delay's numerator a by b.
 #[unsafe(no_mangle)]
+#[tactic(auto, unfolding(crate::specs::Probes::round_div))]
 pub extern "C" fn probe_round_div(a: i64, b: i64) -> i64
     ensures { result ≡ round_div a b }
 {
@@ -31,18 +32,9 @@ pub extern "C" fn probe_round_div(a: i64, b: i64) -> i64
     rounding::round_div(a, b)
 }
 
-// A capped answer as one number.
-fn as_number(k: arithmetic::Capped) -> i64
-    ensures { result ≡ as_number k }
-{
-    match k {
-        arithmetic::Capped::Within(z) => z,
-        arithmetic::Capped::TooLarge => TOO_LARGE,
-    }
-}
-
 // A cumulative share as the chain ladder takes it: g × a / b, up to the largest one in bounds.
 #[unsafe(no_mangle)]
+#[tactic(auto, unfolding(crate::specs::Probes::share))]
 pub extern "C" fn probe_share(g: i64, a: i64, b: i64) -> i64
     ensures { result ≡ share g a b }
 {
@@ -55,11 +47,12 @@ pub extern "C" fn probe_share(g: i64, a: i64, b: i64) -> i64
     if !lies_within(1, 4000000000000, b) {
         return OUTSIDE;
     }
-    as_number(arithmetic::mul_div_capped(g, a, b, 4000000000))
+    arithmetic::mul_div_capped(g, a, b, 4000000000).unwrap_or(TOO_LARGE)
 }
 
 // An ultimate: c × S / g.
 #[unsafe(no_mangle)]
+#[tactic(auto, unfolding(crate::specs::Probes::ultimate, model::specs::Rounding::S))]
 pub extern "C" fn probe_ultimate(c: i64, g: i64) -> i64
     ensures { result ≡ ultimate c g }
 {
@@ -74,6 +67,7 @@ pub extern "C" fn probe_ultimate(c: i64, g: i64) -> i64
 
 // A row base: u × w / d, up to a cap.
 #[unsafe(no_mangle)]
+#[tactic(auto, unfolding(crate::specs::Probes::row_base))]
 pub extern "C" fn probe_row_base(u: i64, w: i64, d: i64, cap: u64) -> i64
     ensures { result ≡ row_base u w d cap }
 {
@@ -89,11 +83,12 @@ pub extern "C" fn probe_row_base(u: i64, w: i64, d: i64, cap: u64) -> i64
     if cap > 210000000000000 {
         return OUTSIDE;
     }
-    as_number(arithmetic::mul_div_capped(u, w, d, cap))
+    arithmetic::mul_div_capped(u, w, d, cap).unwrap_or(TOO_LARGE)
 }
 
 // A cell: v × x / S².
 #[unsafe(no_mangle)]
+#[tactic(auto, unfolding(crate::specs::Probes::cell))]
 pub extern "C" fn probe_cell(v: i64, x: i64) -> i64
     ensures { result ≡ cell v x }
 {

@@ -1,12 +1,13 @@
 -- Numbers of several bytes, and question 3 on the first eight of a record. Assumes nothing.
 use Rattle.std.specs.Prelude.{ℕ, zero, suc, ◌+◌, ◌-◌, ◌*◌, ◌/◌, ◌%◌, ◌<◌, ◌≡◌, ◌&&◌, List, eqb, ltb, leb, get_or}
-use Rattle.std.proofs.Common.{add-zero, ◌∙◌, eq-eqb, eqb-true, le-leb, leb-true, ltb-true, ltb-false}
-use native.Mathlib.Omega.{arith}
+use Rattle.std.proofs.Common.{arith, ap, add-zero, ◌∙◌, eq-eqb, eqb-true, le-leb, leb-true, ltb-true, ltb-false, get_or-take, Fits, w8, w32, w64, take, drop, ◌^◌}
+use Rattle.std.proofs.Math.Seq.{get_or-drop}
+use Rattle.std.specs.Int.{from_le_bytes, cast_signed}
 use Rattle.std.proofs.Math.Bool.{and-true, and_assoc}
 use Rattle.model.specs.ListsLaws.{and_left, and_right}
-use Rattle.model.specs.Records.{least_first, line_at, spares_zero, inside, is_line}
+use Rattle.model.specs.Records.{least_first, signed, line_at, spares_zero, inside, is_line}
 use Rattle.model.specs.Tests.{by_test, same_test}
-use Rattle.records.specs.OneRecord.{Number, HeadAt, well_formed}
+use Rattle.records.specs.OneRecord.{Number, HeadAt, well_formed, least_ext}
 
 zero_both : (x y : ℕ) → eqb (x + 256 * y) 0 ≡ (eqb x 0 && eqb y 0)
 zero_both x y =
@@ -27,6 +28,40 @@ lined x y v =
     let b = eqb-true x v (and_right (leb x 5) (eqb x v) p) in
     let c = eqb-true y 0 (and_right (leb x 5 && eqb x v) (eqb y 0) e) in
     rw (le-leb v 5 (omega arith), eq-eqb (x + 256 * y) v (omega arith)))
+
+-- ---- numbers as `from_le_bytes` reads them from a part of a file
+
+pub from_four : (bs : List ℕ) → from_le_bytes w32 bs ≡ least_first 4 bs 0
+unfolding least_first
+from_four bs = omega arith
+
+pub from_eight : (bs : List ℕ) → from_le_bytes w64 bs ≡ least_first 8 bs 0
+unfolding least_first
+from_eight bs = omega arith
+
+-- a word as std reads it with a sign
+pub signed_is : (x : ℕ) → cast_signed w64 x ≡ signed x
+unfolding signed
+signed_is x = by_test (ltb x (2 ^ 63)) (λ e. rw e) (λ e. rw e)
+
+-- bs is the n bytes of a file from place a on
+abbrev pub Part : ℕ → List ℕ → ℕ → List ℕ → Type 0
+Part n f a bs = bs ≡ take (a + n - a) (drop a f)
+
+pub least_part : (n : ℕ) (f : List ℕ) (a : ℕ) (bs : List ℕ) → Part n f a bs → least_first n bs 0 ≡ least_first n f a
+least_part n f a bs e =
+    least_ext n bs f 0 a (λ i l. rw e (get_or-take (a + n - a) (drop a f) (0 + i) 0 (omega arith) ∙ get_or-drop a f (0 + i) 0 ∙ ap (λ (j : ℕ). get_or f (a + j) 0) (omega arith)))
+
+module _ (f : List ℕ) (each : (i : ℕ) → Fits w8 (get_or f i 0)) where
+  least_small : (n a : ℕ) → least_first n f a < 256 ^ n
+  unfolding least_first
+  least_small zero a = omega arith
+  least_small (suc n) a = omega (arith, each a, least_small n (a + 1))
+
+  pub number : (n a : ℕ) (bs : List ℕ) {r : ℕ} → Part n f a bs → r ≡ least_first n bs 0 → Number n f a r
+  number n a bs p e =
+      let z = e ∙ least_part n f a bs p in
+      record { is = z; small = omega (arith, least_small n a); byte = λ i l. omega (arith, each (a + i)) }
 
 module _ (f : List ℕ) where
   pub least_two : (a : ℕ) → least_first 2 f a ≡ get_or f a 0 + 256 * get_or f (a + 1) 0

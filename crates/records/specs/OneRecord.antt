@@ -33,7 +33,7 @@ pub record HeadAt (f : List ℕ) (k : ℕ) (kind year delay line : ℕ) : Type 0
 abbrev pub Local : {A : Type 0} → (List ℕ → ℕ → A) → Type 0
 Local G = (f : List ℕ) (k : ℕ) → G f k ≡ G (record_at f k) 0
 
-least_ext : (n : ℕ) (f g : List ℕ) (a b : ℕ) → ((i : ℕ) → i < n → get_or f (a + i) 0 ≡ get_or g (b + i) 0) → least_first n f a ≡ least_first n g b
+pub least_ext : (n : ℕ) (f g : List ℕ) (a b : ℕ) → ((i : ℕ) → i < n → get_or f (a + i) 0 ≡ get_or g (b + i) 0) → least_first n f a ≡ least_first n g b
 unfolding least_first
 least_ext zero f g a b h = refl
 least_ext (suc n) f g a b h =

@@ -8,33 +8,19 @@ pub fn byte(file: &[u8], at: usize) -> usize
     requires { at < length file.now }
     ensures { (result ≡ get_or file.now at 0) × (result < 256) }
 {
-    file[at] as usize
+    usize::from(file[at])
 }
 
-// Numbers of two, four and eight bytes, the lowest in front.
-fn two(file: &[u8], at: usize) -> usize
-    requires { at + 2 ≤ length file.now }
-    ensures { Number 2 file.now at result }
-{
-    byte(file, at) + 256 * byte(file, at + 1)
-}
-
+// A number of four bytes, the lowest in front.
 pub fn four(file: &[u8], at: usize) -> usize
     requires { at + 4 ≤ length file.now }
     ensures { Number 4 file.now at result }
 {
-    two(file, at) + 65536 * two(file, at + 2)
-}
-
-fn eight(file: &[u8], at: usize) -> usize
-    requires { at + 8 ≤ length file.now }
-    ensures { Number 8 file.now at result }
-{
-    four(file, at) + 4294967296 * four(file, at + 4)
+    u32::from_le_bytes(file[at..at + 4].try_into().unwrap()) as usize
 }
 
 // The first eight bytes of a record: its kind, its accident year, its delay and, as one number with
-// the spare bytes, its line of cover.
+// the spare bytes, its line of cover. The kind is any byte until question 3 is asked.
 #[derive(Clone, Copy)]
 pub struct RecordHead {
     pub kind: usize,
@@ -47,7 +33,8 @@ pub fn head(file: &[u8], k: usize) -> RecordHead
     requires { 16 * k + 16 ≤ length file.now }
     ensures { HeadAt file.now k result.kind result.year result.delay result.line }
 {
-    let w = eight(file, 16 * k);
+    let at = 16 * k;
+    let w = usize::from_le_bytes(file[at..at + 8].try_into().unwrap());
     RecordHead {
         kind: w % 256,
         year: w / 256 % 256,
@@ -56,29 +43,20 @@ pub fn head(file: &[u8], k: usize) -> RecordHead
     }
 }
 
-// A word read with a sign.
-fn to_signed(x: usize) -> i64
-    ensures { result ≡ signed x }
-{
-    if x < 9223372036854775808 {
-        return x as i64;
-    }
-    let y = 18446744073709551615 - x;
-    -1 - (y as i64)
-}
-
 // The value of a record.
 pub fn value(file: &[u8], k: usize) -> i64
     requires { 16 * k + 16 ≤ length file.now }
     ensures { result ≡ value_at file.now k }
 {
-    to_signed(eight(file, 16 * k + 8))
+    let at = 16 * k + 8;
+    i64::from_le_bytes(file[at..at + 8].try_into().unwrap())
 }
 
 // The key of a record: 400 times its kind, and the place of its cell.
 pub fn key(h: RecordHead) -> usize
     requires { (h.kind < 3) × (1 ≤ h.year) × (h.year + h.delay ≤ 20) }
-    ensures { result ≡ 400 * h.kind + (20 * (h.year - 1) + h.delay) }
+    ensures value { result ≡ 400 * h.kind + (20 * (h.year - 1) + h.delay) }
+    ensures below { result < 1200 }
 {
     400 * h.kind + (20 * (h.year - 1) + h.delay)
 }

@@ -6,23 +6,19 @@ ghost use Rattle.model.specs.Questions.{q1, kinds};
 use crate::fields;
 
 // Question 1.
+#[tactic(auto, unfolding(model::specs::Questions::q1))]
 pub fn q1(m: usize) -> bool
     ensures { result ≡ q1 m }
 {
-    if m < 2 {
-        return false;
-    }
-    m <= 20
+    (2..=20).contains(&m)
 }
 
 // The number of kinds of a set.
+#[tactic(auto, unfolding(model::specs::Questions::kinds))]
 pub fn kinds(has_incurred: bool) -> usize
     ensures { result ≡ kinds has_incurred }
 {
-    if has_incurred {
-        return 3;
-    }
-    2
+    if has_incurred { 3 } else { 2 }
 }
 
 // The number of records of a set.
@@ -34,7 +30,7 @@ pub fn set_records(m: usize, has_incurred: bool) -> usize
 }
 
 // Question 3 of one record, where there are `kinds` kinds and the file's line is `line`: a spare
-// byte that is not zero makes the record's line 256 or more.
+// byte that is not zero makes the record's line 256 or more. All tests are made, with no branch.
 pub fn record_ok(h: fields::RecordHead, m: usize, kinds: usize, line: usize) -> bool
     requires { (h.year < 256) × (h.delay < 256) }
     ensures { result ≡ (ltb h.kind kinds && inside m h.year h.delay && (is_line line && eqb h.line line)) }
@@ -42,28 +38,17 @@ pub fn record_ok(h: fields::RecordHead, m: usize, kinds: usize, line: usize) -> 
     (h.kind < kinds) & ((1 <= h.year) & (h.year + h.delay <= m)) & ((line <= 5) & (h.line == line))
 }
 
-// The bounds of question 5, by kind.
-fn lowest(kind: usize) -> i64
-    ensures { result ≡ cond (ltb kind 2) (pos 0) (negsuc (10 ^ 10 - 1)) }
-{
-    if kind < 2 {
-        return 0;
-    }
-    -10000000000
-}
-
-fn highest(kind: usize) -> i64
-    ensures { result ≡ pos (cond (eqb kind 0) (10 ^ 7) (10 ^ 10)) }
-{
-    if kind == 0 {
-        return 10000000;
-    }
-    10000000000
-}
-
-// Question 5 of one value.
+// Question 5 of one value. A `match` on the kind, a number as the record has it, would branch in
+// the reader's loop.
+#[tactic(auto, unfolding(model::specs::Records::in_range))]
 pub fn in_range(kind: usize, v: i64) -> bool
     ensures { result ≡ in_range kind v }
 {
-    (lowest(kind) <= v) & (v <= highest(kind))
+    let lowest = if kind < 2 { 0 } else { -10_000_000_000 };
+    let highest = if kind == 0 {
+        10_000_000
+    } else {
+        10_000_000_000
+    };
+    (lowest..=highest).contains(&v)
 }

@@ -11,15 +11,21 @@ ghost use Rattle.rounding.specs.Signed.{turned, signed};
 // S: shares are whole numbers of one part in S.
 pub const SCALE: i64 = 1000000000;
 
+// S without a sign.
+pub const UNSIGNED_SCALE: u64 = SCALE as u64;
+
+// An exact quotient and its remainder, or the first digit below it.
+#[derive(Clone, Copy)]
+pub struct Quotient {
+    pub q: u64,
+    pub rem: u64,
+}
+
 // A number without its sign, the least i64 too: one above that has an opposite.
 pub fn magnitude(a: i64) -> u64
     ensures { result ≡ nat_abs a }
 {
-    if a < 0 {
-        let above = a + 1;
-        return (-above) as u64 + 1;
-    }
-    a as u64
+    a.unsigned_abs()
 }
 
 // How far the nearest number is from a quotient q: 0 or 1, from what is left above q and what is

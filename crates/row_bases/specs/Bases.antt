@@ -1,10 +1,18 @@
 -- Row bases and leftovers from a year's numbers: the ultimates u of paid and w of incurred, the
 -- latest paid sum c, and u1 and w1 of year 1.
-use Rattle.std.specs.Prelude.{ℕ, ◌*◌, ◌^◌, ◌≤◌, ◌<◌, ◌≡◌, Bool, true, ◌&&◌, cond, List, eqb, leb, ℤ, pos, nat_abs, ◌-ℤ◌, ◌*ℤ◌}
+use Rattle.std.specs.Prelude.{ℕ, ◌*◌, ◌^◌, ◌≤◌, ◌<◌, ◌≡◌, true, false, ◌&&◌, cond, List, eqb, leb, ℤ, pos, nat_abs, ◌-ℤ◌, ◌*ℤ◌, Option, MatchOption}
 use Rattle.integers.specs.Parts.{◌⩽◌, ◌⋖◌}
 use Rattle.model.specs.Lists.{at, listed, every}
 use Rattle.model.specs.Rounding.{r}
 use Rattle.model.specs.RowBases.{is_zero}
+use Rattle.row_bases.specs.declared.Method.{Method}
+use Rattle.row_bases.specs.declared.Method.TheVariants.{Dcl, Bdcl, Idcl}
+
+-- the number of a method, as a call gives it
+abbrev pub number : Method → ℕ
+number Dcl = 0
+number Bdcl = 1
+number Idcl = 2
 
 -- V, by method: u; r(u1 × w / w1); r(u × (w - c) / (u - c)), or u where u - c is 0
 unfoldable pub base_from : ℕ → ℤ → ℤ → ℤ → ℤ → ℤ → ℤ
@@ -41,7 +49,8 @@ module _ (m method : ℕ) (u c w : List ℤ) where
   abbrev pub AllSizes : Type 0
   AllSizes = (k : ℕ) → k < m → Sizes method (at u 0) (at w 0) (at u k) (at w k) (at c k)
 
-  -- whether each base is within question 14's range, and where each is, the list of them
-  pub record Bases (ok : Bool) (v : List ℤ) : Type 0 where
-    pub answer : ok ≡ every m (λ k. leb (nat_abs (base_at k)) (2 * 10 ^ 14))
-    pub listed_all : ok ≡ true → v ≡ listed 20 m base_at (pos 0)
+  -- the list of the bases, where each is within question 14's range
+  abbrev pub Bases : Option (List ℤ) → Type 0
+  Bases given =
+      MatchOption given (every m (λ k. leb (nat_abs (base_at k)) (2 * 10 ^ 14)) ≡ false)
+      (λ v. (every m (λ k. leb (nat_abs (base_at k)) (2 * 10 ^ 14)) ≡ true) × (v ≡ listed 20 m base_at (pos 0)))

@@ -1,5 +1,5 @@
 -- The row bases and leftovers of a set under a method, and questions 13 and 14.
-use Rattle.std.specs.Prelude.{ℕ, suc, ◌*◌, ◌^◌, ◌≤◌, ◌<◌, ◌≡◌, Bool, true, List, ℤ, pos, nat_abs}
+use Rattle.std.specs.Prelude.{ℕ, suc, ◌*◌, ◌^◌, ◌≤◌, ◌<◌, ◌≡◌, Option, Some, List, ℤ, pos, nat_abs}
 use Rattle.integers.specs.Parts.{◌⩽◌, ◌⋖◌}
 use Rattle.model.specs.Lists.{at, listed}
 use Rattle.model.specs.Shares.{ultimate}
@@ -22,11 +22,11 @@ pub record Asked (m : ℕ) (c d e : List ℤ) (method : ℕ) : Type 0 where
   pub known : method ≤ 2
   pub incurred : (method ≡ 0 → ⊥) → Small m (10 ^ 10) e
 
--- question 13 of incurred t and W under methods 1 and 2; a yes and zeros under method 0, where
+-- W of incurred t, where question 13 gets a yes, under methods 1 and 2; zeros under method 0, where
 -- incurred is not asked for
-pub record Under (m : ℕ) (t : List ℤ) (method : ℕ) (ok : Bool) (w : List ℤ) : Type 0 where
-  pub unused : method ≡ 0 → (ok ≡ true) × (w ≡ zeros 20)
-  pub used : (method ≡ 0 → ⊥) → IncurredOf m t ok w
+pub record Under (m : ℕ) (t : List ℤ) (method : ℕ) (given : Option (List ℤ)) : Type 0 where
+  pub unused : method ≡ 0 → given ≡ Some (zeros 20)
+  pub used : (method ≡ 0 → ⊥) → IncurredOf m t given
 
 -- the number n of the first of questions 13 and 14 that gets a no; where none does, the row bases
 -- v; and the leftovers, as before beside a refusal

@@ -1,6 +1,6 @@
 -- Laws of Method: the bases and leftovers from the lists are the model's, and the questions 13 and
 -- 14 as the code asks them. Assumes nothing.
-use Rattle.std.specs.Prelude.{◌≡◌, Bool, true, false, ◌&&◌, ℕ, zero, suc, ◌-◌, ◌*◌, ◌^◌, ◌≤◌, ◌<◌, eqb, pos, neg_ℤ, nat_abs}
+use Rattle.std.specs.Prelude.{◌≡◌, Bool, true, false, Some, None, ◌&&◌, ℕ, zero, suc, ◌-◌, ◌*◌, ◌^◌, ◌≤◌, ◌<◌, min, eqb, pos, neg_ℤ, nat_abs}
 use Rattle.std.proofs.Math.Path.{refl, ap}
 use Rattle.std.proofs.Common.{sym, ◌∙◌}
 use Rattle.std.proofs.lemmas.Bool.{false≢true}
@@ -31,6 +31,10 @@ use Rattle.ladder.specs.UltimatesLaws.{ultimate_nonneg, ultimate_small, latest_u
 use Rattle.chain_ladder.specs.Valid.{Valid, incurred_small}
 use Rattle.row_bases.specs.Bases.{Year, base_from, left_from, base_at, left_at, AllSizes, Bases}
 use Rattle.row_bases.specs.Method.{Asked, Incurreds, Under, row_bases}
+
+-- the method that stands for a known number has that number
+pub known_number : {k n : ℕ} → n ≤ 2 → k ≡ min n 2 → k ≡ n
+known_number h e = omega arith
 
 -- methods 1 and 2
 pub uses : (method : ℕ) → method ≤ 2 → (method ≡ 0 → ⊥) → uses_incurred method ≡ true
@@ -208,22 +212,23 @@ module _ (m : ℕ) (s : TriangleSet) (method : ℕ) where
     unfolding of_method first_no
     both a b = rw (uses method known n, a, b)
 
--- ---- as the code asks: ok and w are what it has of incurred
-module _ (m : ℕ) (s : TriangleSet) (method : ℕ) (asked : Asked m s.counts s.paid s.incurred method) {ok : Bool} {w : List ℤ} (under : Under m s.incurred method ok w) where
+-- ---- as the code asks
+module _ (m : ℕ) (s : TriangleSet) (method : ℕ) (asked : Asked m s.counts s.paid s.incurred method) where
   -- method 0, or question 13
   by_method : {P : Type 0} → (method ≡ 0 → P) → ((method ≡ 0 → ⊥) → P) → P
   by_method f g = by_test (eqb method 0) (λ e. f (eqb-true method 0 e)) (λ e. g (eqb-false method 0 e))
 
-  pub answer_13 : ok ≡ false → first_no (of_method m s method) ≡ 13
-  answer_13 t =
-      by_method (λ q. absurd (false≢true (sym t ∙ (under.unused q).0)))
-      (λ n. no_13 m s method asked.known n (sym (under.used n).answer ∙ t))
+  pub answer_13 : Under m s.incurred method None → first_no (of_method m s method) ≡ 13
+  answer_13 under =
+      by_method (λ q. let e : None ≡ Some (zeros 20) = under.unused q in absurd cc)
+      (λ n. no_13 m s method asked.known n (under.used n))
 
-  module _ (t : ok ≡ true) where
+  -- w is what it has of incurred
+  module _ {w : List ℤ} (under : Under m s.incurred method (Some w)) where
     have : Incurreds m s method w
     have =
-        by_method (λ q. rw (under.unused q).1 (no_incurred_lem m s method asked q))
-        (λ n. let y = under.used n in rw (y.ultimates t) (with_incurred m s method asked n (sym y.answer ∙ t)))
+        by_method (λ q. let e : Some w ≡ Some (zeros 20) = under.unused q in let z : w ≡ zeros 20 = cc in rw z (no_incurred_lem m s method asked q))
+        (λ n. let y = under.used n in rw y.1 (with_incurred m s method asked n y.0))
 
     -- from the lists of paid
     module _ {u c : List ℤ} (u_is : u ≡ ultimates m s.paid) (c_is : c ≡ latests m s.paid) where
@@ -233,23 +238,23 @@ module _ (m : ℕ) (s : TriangleSet) (method : ℕ) (asked : Asked m s.counts s.
       pub left_overs : listed 20 m (left_at m method u c w) (pos 0) ≡ leftovers m s method
       left_overs = rw (u_is, c_is) (lefts_are m s method asked w have)
 
-      module _ {in_range_lem : Bool} {v : List ℤ} (bases : Bases m method u c w in_range_lem v) where
-        of_set_lem : Bases m method (ultimates m s.paid) (latests m s.paid) w in_range_lem v
+      pub answer_14 : Bases m method u c w None → first_no (of_method m s method) ≡ 14
+      answer_14 bases =
+          let no : every m (λ k. leb (nat_abs (base_at m method (ultimates m s.paid) (latests m s.paid) w k)) (2 * 10 ^ 14)) ≡ false = rw (u_is, c_is) at bases in
+          by_method (λ q. absurd (false≢true (sym no ∙ passed_14 m s method asked w have q)))
+          (λ n. no_14 m s method asked.known n (under.used n).0 (sym (asked_14 m s method asked w have) ∙ no))
+
+      module _ {v : List ℤ} (bases : Bases m method u c w (Some v)) where
+        of_set_lem : Bases m method (ultimates m s.paid) (latests m s.paid) w (Some v)
         of_set_lem = rw (u_is, c_is) at bases
 
-        pub answer_14 : in_range_lem ≡ false → first_no (of_method m s method) ≡ 14
-        answer_14 f =
-            by_method (λ q. absurd (false≢true (sym f ∙ of_set_lem.answer ∙ passed_14 m s method asked w have q)))
-            (λ n. no_14 m s method asked.known n (sym (under.used n).answer ∙ t) (sym (asked_14 m s method asked w have) ∙ sym of_set_lem.answer ∙ f))
+        pub answer_yes : first_no (of_method m s method) ≡ 0
+        answer_yes =
+            by_method (λ q. none_asked m s method q)
+            (λ n. both m s method asked.known n (under.used n).0 (sym (asked_14 m s method asked w have) ∙ of_set_lem.0))
 
-        module _ (yes : in_range_lem ≡ true) where
-          pub answer_yes : first_no (of_method m s method) ≡ 0
-          answer_yes =
-              by_method (λ q. none_asked m s method q)
-              (λ n. both m s method asked.known n (sym (under.used n).answer ∙ t) (sym (asked_14 m s method asked w have) ∙ sym of_set_lem.answer ∙ yes))
-
-          pub row_bases_are : v ≡ row_bases m s method
-          row_bases_are = of_set_lem.listed_all yes ∙ bases_are m s method asked w have
+        pub row_bases_are : v ≡ row_bases m s method
+        row_bases_are = of_set_lem.1 ∙ bases_are m s method asked w have
 
 -- ---- the bases of an accepted set are within question 14's range
 module _ (m : ℕ) (s : TriangleSet) (method : ℕ) (asked : Asked m s.counts s.paid s.incurred method) (accepted : first_no (of_method m s method) ≡ 0) where

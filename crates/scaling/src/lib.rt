@@ -5,28 +5,12 @@
 ghost use Rattle.std.specs.Prelude.{◌≡◌, ◌+◌, ◌*◌, ◌/◌, ◌%◌, ◌^◌, ◌<◌, ◌≤◌, nat_abs, ◌*ℤ◌};
 ghost use Rattle.model.specs.Rounding.{S, r};
 
-use rounding::{SCALE, magnitude, round_signed, with_sign};
+use rounding::{Quotient, SCALE, UNSIGNED_SCALE, magnitude, round_signed, with_sign};
 
-// An exact quotient and the first digit below it.
-#[derive(Clone, Copy)]
-struct Quotient {
-    q: u64,
-    rem: u64,
-}
-
-// S without a sign, half of it, and its square.
-const UNSIGNED_SCALE: u64 = SCALE as u64;
-
+// Half of S, and its square.
 const HALF_SCALE: u64 = UNSIGNED_SCALE / 2;
 
 const SQUARE: u64 = UNSIGNED_SCALE * UNSIGNED_SCALE;
-
-// 1 where n is at least a bound, else 0.
-fn reached(n: u64, bound: u64) -> u64
-    ensures { (result ≤ 1) × (n < bound → result ≡ 0) × (bound ≤ n → result ≡ 1) }
-{
-    if n < bound { 0 } else { 1 }
-}
 
 // The quotient of v × x by S², and the first digit below it in base S.
 fn divide_by_square(v: u64, x: u64) -> Quotient
@@ -69,5 +53,5 @@ pub fn scale_cell(v: i64, x: i64) -> i64
             SQUARE as i64,
         );
     }
-    with_sign(negative, (s.q + reached(s.rem, HALF_SCALE)) as i64)
+    with_sign(negative, (s.q + u64::from(s.rem >= HALF_SCALE)) as i64)
 }

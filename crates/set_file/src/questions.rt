@@ -4,18 +4,16 @@ ghost use Rattle.model.specs.Lists.{every};
 ghost use Rattle.model.specs.Records.{cell, in_range};
 ghost use Rattle.model.specs.Questions.{each_cell, q5_writer};
 
-// Question 5 of the first n cells of a year.
+// Question 5 of the first n cells of a year. By index: `iter().all` over a part of the cells took
+// an instruction more a cell.
 fn year_ok(kind: usize, cells: &[i64; 400], year: usize, n: usize) -> bool
     requires { (1 ≤ year) × (year ≤ 20) × (n ≤ 20) }
     ensures { result ≡ every n (λ j. in_range kind (cell cells.now year j)) }
 {
-    let mut j = 0;
-    while j < n {
-        let v = cells[20 * (year - 1) + j];
-        if !records::questions::in_range(kind, v) {
+    for j in 0..n {
+        if !records::questions::in_range(kind, cells[20 * (year - 1) + j]) {
             return false;
         }
-        j += 1;
     }
     true
 }
@@ -25,17 +23,16 @@ fn cells_ok(m: usize, kind: usize, cells: &[i64; 400]) -> bool
     requires { m ≤ 20 }
     ensures { result ≡ each_cell m (λ i j. in_range kind (cell cells.now i j)) }
 {
-    let mut k = 0;
-    while k < m {
+    for k in 0..m {
         if !year_ok(kind, cells, k + 1, m - k) {
             return false;
         }
-        k += 1;
     }
     true
 }
 
-// Question 5 of the set.
+// Question 5 of the set, with the flag as `write_lent` has it.
+#[tactic(auto, unfolding(model::specs::Questions::q5_writer))]
 pub fn set_ok<'a>(
     m: usize,
     has_incurred: bool,
@@ -46,14 +43,5 @@ pub fn set_ok<'a>(
     requires { m ≤ 20 }
     ensures { result ≡ q5_writer m has_incurred counts.now paid.now incurred.now }
 {
-    if !cells_ok(m, 0, counts) {
-        return false;
-    }
-    if !cells_ok(m, 1, paid) {
-        return false;
-    }
-    if has_incurred {
-        return cells_ok(m, 2, incurred);
-    }
-    true
+    cells_ok(m, 0, counts) && cells_ok(m, 1, paid) && (!has_incurred || cells_ok(m, 2, incurred))
 }

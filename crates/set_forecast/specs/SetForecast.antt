@@ -1,6 +1,7 @@
 -- The forecast of a set: from what is prepared of it, and from the set, with the delays from either
 -- side.
-use Rattle.std.specs.Prelude.{ℕ, ◌^◌, ◌≤◌, ◌≡◌, Bool, cond, List, ◌++◌, ℤ}
+use Rattle.std.specs.Prelude.{ℕ, ◌^◌, ◌≤◌, ◌≡◌, Option, List, ◌++◌, ℤ}
+use Rattle.std.specs.Option.{unwrap_or}
 use Rattle.model.specs.Delays.{delays_of}
 use Rattle.model.specs.RowBases.{leftovers}
 use Rattle.model.specs.Cells.{output_from}
@@ -23,14 +24,14 @@ method_refusal m s method = first_no (of_method m s method)
 unfoldable pub set_refusal : ℕ → TriangleSet → ℕ → ℕ
 set_refusal m s method = first_no (of_forecast m s (delays_of m s) method)
 
--- the questions of the set with the delays from either side: the lent ones where they are given,
+-- the questions of the set with the delays from either side: the lent ones where some are given,
 -- else those solved here
-unfoldable pub of_either : ℕ → TriangleSet → Bool → List ℤ → ℕ → List Question
-of_either m s given lent method = of_shares m s.counts s.paid ++ asks_delays m s.counts s.paid given lent ++ of_method m s method
+unfoldable pub of_either : ℕ → TriangleSet → Option (List ℤ) → ℕ → List Question
+of_either m s given method = of_shares m s.counts s.paid ++ asks_delays m s.counts s.paid given ++ of_method m s method
 
 -- the delays that its forecast goes by
-unfoldable pub either_delays : ℕ → TriangleSet → Bool → List ℤ → List ℤ
-either_delays m s given lent = cond given lent (delays_of m s)
+unfoldable pub either_delays : ℕ → TriangleSet → Option (List ℤ) → List ℤ
+either_delays m s given = unwrap_or given (delays_of m s)
 
 -- the forecast of the set s with the delays p: its refusal number n, the leftovers and the output
 -- before and after; beside a refusal both are as they were

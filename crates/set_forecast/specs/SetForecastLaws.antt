@@ -1,10 +1,10 @@
 -- Laws of the forecast of a set: what is prepared gives the row bases and the cells what they ask,
 -- and these give the answer. Assumes nothing.
-use Rattle.std.specs.Prelude.{◌≡◌, Bool, ◌&&◌, ltb, eqb, ℤ, pos, nat_abs, length}
+use Rattle.std.specs.Prelude.{◌≡◌, Option, Some, None, ◌&&◌, ltb, eqb, ℤ, pos, nat_abs, length}
 use Rattle.std.proofs.Math.Path.{refl, sym}
 use Rattle.std.proofs.Common.{◌∙◌, ap, ltb-true, ltb-false}
-use Rattle.std.proofs.Math.Bool.{true, false}
-use mathlib.Core.List.{List, [], ◌++◌}
+use Rattle.std.proofs.Math.Bool.{true}
+use mathlib.Core.List.{List, ◌++◌}
 use Prim.Native.Nat.{ℕ, suc, ◌-◌, ◌*◌, ◌^◌, ◌≤◌, ◌<◌}
 use native.Mathlib.Omega.{arith}
 use Rattle.model.specs.Lists.{at, listed, every}
@@ -146,49 +146,49 @@ module _ (m : ℕ) (c d : List ℤ) where
   solved_range z = in_places m (pair_delays m c d) (pair_delays m c d) (prepared_so m c d z).1 (λ l h k. refl) (λ l h k. delay_past (b_list m c) (b_list m d) m l h k)
 
   -- from either side
-  pub either_range : (given : Bool) (lent : List ℤ) → refusal_from m c d given lent ≡ 0 → Delays (delays_from m c d given lent)
+  pub either_range : (given : Option (List ℤ)) → refusal_from m c d given ≡ 0 → Delays (delays_from m c d given)
   unfolding delays_from q20 prepared_refusal refusal_from asks_delays
-  either_range true lent z =
+  either_range (Some lent) z =
       in_places m lent (placed m lent) (and_right (eqb (length lent) m) (q12 m lent) (and_left (eqb (length lent) m && q12 m lent) _ (given_so m c d lent z)))
       (λ l h k. get_or_listed 20 m (at lent) (pos 0) l (pos 0) k h) (λ l h k. get_or_listed_past 20 m (at lent) (pos 0) l (pos 0) k h)
-  either_range false lent z = solved_range z
+  either_range None z = solved_range z
 
 -- they solve the system, and make the output of what stands in the list of 20
 module _ (m : ℕ) (s : TriangleSet) (shared : Shared m s.counts s.paid) where
-  pub either_solve : (given : Bool) (lent : List ℤ) → refusal_from m s.counts s.paid given lent ≡ 0
-      → Solves m (b_list m s.counts) (b_list m s.paid) (either_delays m s given lent)
+  pub either_solve : (given : Option (List ℤ)) → refusal_from m s.counts s.paid given ≡ 0
+      → Solves m (b_list m s.counts) (b_list m s.paid) (either_delays m s given)
   unfolding either_delays q20
-  either_solve true lent z =
+  either_solve (Some lent) z =
       solves_so m (b_list m s.counts) (b_list m s.paid) lent
       (and_right (eqb (length lent) m && q12 m lent) (every m (solves_at (b_list m s.counts) (b_list m s.paid) lent)) (given_so m s.counts s.paid lent z))
-  either_solve false lent z = own_solve m s shared
+  either_solve None z = own_solve m s shared
 
-  pub either_output : (given : Bool) (lent : List ℤ) (method basis : ℕ) (before : List ℤ)
-      → output_from m s (delays_from m s.counts s.paid given lent) method basis before ≡ output_from m s (either_delays m s given lent) method basis before
+  pub either_output : (given : Option (List ℤ)) (method basis : ℕ) (before : List ℤ)
+      → output_from m s (delays_from m s.counts s.paid given) method basis before ≡ output_from m s (either_delays m s given) method basis before
   unfolding delays_from either_delays delays_of
-  either_output true lent method basis before =
+  either_output (Some lent) method basis before =
       same_output m (placed m lent) lent (λ k h. get_or_listed 20 m (at lent) (pos 0) k (pos 0) (omega (arith, shared.counts.small.few)) h) s method basis before
-  either_output false lent method basis before = refl
+  either_output None method basis before = refl
 
 module _ (m : ℕ) (s : TriangleSet) (method : ℕ) where
   -- the refusal: questions 9 to 11 and 20 or 12, then 13 and 14
-  module _ (given : Bool) (lent : List ℤ) where
+  module _ (given : Option (List ℤ)) where
     abbrev asked : List Question
-    asked = of_shares m s.counts s.paid ++ asks_delays m s.counts s.paid given lent
+    asked = of_shares m s.counts s.paid ++ asks_delays m s.counts s.paid given
 
     asked_numbered : numbered asked ≡ true
     unfolding of_shares asks_delays of_delays of_given_delays numbered
-    asked_numbered = by_test given (λ e. rw e) (λ e. rw e)
+    asked_numbered = elim given as (λ o. numbered (of_shares m s.counts s.paid ++ asks_delays m s.counts s.paid o) ≡ true) [ None ↦ refl | Some lent ↦ refl ]
 
-    pub by_either : (refusal_from m s.counts s.paid given lent ≡ 0 → ⊥) → first_no (of_either m s given lent method) ≡ refusal_from m s.counts s.paid given lent
+    pub by_either : (refusal_from m s.counts s.paid given ≡ 0 → ⊥) → first_no (of_either m s given method) ≡ refusal_from m s.counts s.paid given
     unfolding of_either refusal_from of_shares
     by_either = stage_no asked (of_method m s method) asked_numbered
 
-    pub after_either : refusal_from m s.counts s.paid given lent ≡ 0 → first_no (of_either m s given lent method) ≡ method_refusal m s method
+    pub after_either : refusal_from m s.counts s.paid given ≡ 0 → first_no (of_either m s given method) ≡ method_refusal m s method
     unfolding of_either method_refusal refusal_from of_shares
     after_either = stage_yes asked (of_method m s method) asked_numbered
 
-    either_so : first_no (of_either m s given lent method) ≡ 0 → (refusal_from m s.counts s.paid given lent ≡ 0) × (method_refusal m s method ≡ 0)
+    either_so : first_no (of_either m s given method) ≡ 0 → (refusal_from m s.counts s.paid given ≡ 0) × (method_refusal m s method ≡ 0)
     unfolding of_either method_refusal refusal_from of_shares
     either_so = stages_so asked (of_method m s method) asked_numbered
 
@@ -198,15 +198,15 @@ module _ (m : ℕ) (s : TriangleSet) (method : ℕ) where
 
   pub by_pair : (pair ≡ 0 → ⊥) → set_refusal m s method ≡ pair
   unfolding set_refusal of_forecast prepared_refusal delays_of of_either refusal_from asks_delays
-  by_pair = by_either false []
+  by_pair = by_either None
 
   pub by_method : pair ≡ 0 → set_refusal m s method ≡ method_refusal m s method
   unfolding set_refusal of_forecast prepared_refusal delays_of of_either refusal_from asks_delays
-  by_method = after_either false []
+  by_method = after_either None
 
   pub set_so : set_refusal m s method ≡ 0 → (pair ≡ 0) × (method_refusal m s method ≡ 0)
   unfolding set_refusal of_forecast prepared_refusal delays_of of_either refusal_from asks_delays
-  set_so = either_so false []
+  set_so = either_so None
 
   module _ (valid : Valid m s) where
     set_shared : pair ≡ 0 → Shared m s.counts s.paid

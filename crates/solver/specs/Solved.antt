@@ -1,14 +1,12 @@
 -- What `solve` and `checked` hand back of the shares b and q of a set of size m, and what they ask
 -- of them.
-use Rattle.std.specs.Prelude.{ℕ, suc, ◌+◌, ◌-◌, ◌*◌, ◌^◌, ◌≤◌, ◌<◌, ◌≡◌, Bool, false, cond, List, ℤ, pos, neg_ℤ, nat_abs, ◌*ℤ◌}
+use Rattle.std.specs.Prelude.{ℕ, suc, ◌+◌, ◌-◌, ◌*◌, ◌^◌, ◌≤◌, ◌<◌, ◌≡◌, Bool, cond, Option, Some, None, List, ℤ, pos, neg_ℤ, nat_abs, ◌*ℤ◌}
 use Rattle.integers.specs.Parts.{◌⩽◌, ◌⋖◌}
 use Rattle.integers.specs.Sums.{sum}
 use Rattle.model.specs.Lists.{at, listed}
 use Rattle.model.specs.Rounding.{S}
 use Rattle.model.specs.Delays.{delays}
 use Rattle.model.specs.Questions.{within, q12, q20}
-use Rattle.model.specs.Calls.{zeros}
-use Rattle.solver.specs.declared.Solved.{Solved}
 
 -- the sum of b(k) × p(l-k) for k = first to l
 unfoldable pub weighed_sum : List ℤ → List ℤ → ℕ → ℕ → ℤ
@@ -18,21 +16,17 @@ weighed_sum b p first l = sum (suc l - first) (λ k. at b (first + k) *ℤ at p 
 abbrev pub held : ℤ → Bool
 held z = within (neg_ℤ (pos (8 * 10 ^ 9))) (pos (8 * 10 ^ 9)) z
 
--- a no to question 12 or 20
-abbrev pub unsolved : Solved
-unsolved = record { ok = false; p = zeros 20 }
-
 -- the delays, where question 12 gets a yes
-unfoldable pub solved_of : ℕ → List ℤ → List ℤ → Solved
-solved_of m b q = let p = delays m b q in record { ok = q12 m p; p = cond (q12 m p) p (zeros 20) }
+unfoldable pub solved_of : ℕ → List ℤ → List ℤ → Option (List ℤ)
+solved_of m b q = let p = delays m b q in cond (q12 m p) (Some p) None
 
 -- given delays in a list of 20 places
 abbrev pub placed : ℕ → List ℤ → List ℤ
 placed m lent = listed 20 m (at lent) (pos 0)
 
 -- the given delays, where question 20 gets a yes
-unfoldable pub checked_of : ℕ → List ℤ → List ℤ → List ℤ → Solved
-checked_of m b q lent = let ok = q20 m b q lent in record { ok = ok; p = cond ok (placed m lent) (zeros 20) }
+unfoldable pub checked_of : ℕ → List ℤ → List ℤ → List ℤ → Option (List ℤ)
+checked_of m b q lent = cond (q20 m b q lent) (Some (placed m lent)) None
 
 -- what questions 1, 5 and 9 to 11 give of b and q: the shares are not negative, those of b add up
 -- to S, and b(0) is at least 10^6

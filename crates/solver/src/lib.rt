@@ -6,14 +6,7 @@ ghost use Rattle.std.specs.Prelude.{◌≡◌, ◌*◌, ◌^◌, ◌≤◌, nat_
 ghost use Rattle.model.specs.Lists.{at};
 ghost use Rattle.model.specs.Rounding.{S};
 ghost use Rattle.model.specs.Delays.{delay_after, solves_at};
-ghost use Rattle.solver.specs.Solved.{Weighed, Next, Solvable, weighed_sum, held, unsolved, solved_of, checked_of};
-
-// The delays, p(l) at place l, where `ok` says that question 12, or 20, got a yes; else zeros.
-#[derive(Clone, Copy)]
-pub struct Solved {
-    pub ok: bool,
-    pub p: [i64; 20],
-}
+ghost use Rattle.solver.specs.Solved.{Weighed, Next, Solvable, weighed_sum, held, solved_of, checked_of};
 
 // The bound of a delay, on either side of zero.
 const BOUND: i64 = 8000000000;
@@ -24,10 +17,8 @@ fn weighed_sum(b: &[i64; 20], p: &[i64; 20], first: usize, l: usize) -> i64
     ensures { result ≡ weighed_sum b.now p.now first l }
 {
     let mut out = 0i64;
-    let mut k = first;
-    while k <= l {
-        out = out + b[k] * p[l - k];
-        k += 1;
+    for k in first..=l {
+        out += b[k] * p[l - k];
     }
     out
 }
@@ -62,62 +53,44 @@ fn solves_at(b: &[i64; 20], q: &[i64; 20], p: &[i64; 20], l: usize) -> bool
 fn in_range(x: i64) -> bool
     ensures { result ≡ held x }
 {
-    if x < -BOUND {
-        return false;
-    }
-    x <= BOUND
+    (-BOUND..=BOUND).contains(&x)
 }
 
-// A no to question 12 or 20.
-fn no_delays() -> Solved
-    ensures { result ≡ unsolved }
-{
-    Solved {
-        ok: false,
-        p: [0i64; 20],
-    }
-}
-
-// All m delays, from the shares b of counts and q of paid. It stops at the first that is outside
-// question 12's range.
-pub fn solve<'a>(m: usize, b: &'a [i64; 20], q: &'a [i64; 20]) -> Solved
+// All m delays, p(l) at place l, from the shares b of counts and q of paid, where question 12 gets
+// a yes. It stops at the first that is outside its range.
+pub fn solve(m: usize, b: &[i64; 20], q: &[i64; 20]) -> Option<[i64; 20]>
     requires { Solvable m b.now q.now }
     ensures { result ≡ solved_of m b.now q.now }
 {
     let mut p = [0i64; 20];
-    let mut l = 0;
-    while l < m {
+    for l in 0..m {
         let x = delay(b, q, &p, l);
         if !in_range(x) {
-            return no_delays();
+            return None;
         }
         p[l] = x;
-        l += 1;
     }
-    Solved { ok: true, p }
+    Some(p)
 }
 
 // The lent delays, where question 20 gets a yes. Each is held against its range before it is
 // multiplied: any numbers may be lent.
-pub fn checked<'a>(m: usize, b: &'a [i64; 20], q: &'a [i64; 20], lent: &[i64]) -> Solved
+pub fn checked(m: usize, b: &[i64; 20], q: &[i64; 20], lent: &[i64]) -> Option<[i64; 20]>
     requires { Solvable m b.now q.now }
     ensures { result ≡ checked_of m b.now q.now lent.now }
 {
     if lent.len() != m {
-        return no_delays();
+        return None;
     }
     let mut p = [0i64; 20];
-    let mut l = 0;
-    while l < m {
-        let y = lent[l];
+    for (l, &y) in lent.iter().enumerate() {
         if !in_range(y) {
-            return no_delays();
+            return None;
         }
         p[l] = y;
         if !solves_at(b, q, &p, l) {
-            return no_delays();
+            return None;
         }
-        l += 1;
     }
-    Solved { ok: true, p }
+    Some(p)
 }

@@ -15,6 +15,8 @@ use Rattle.model.specs.ListsLaws.{length_tabulate, get_d_tabulate, tabulate_ext,
 use Rattle.model.specs.Cells.{size}
 use Rattle.model.specs.Calendar.{calendar_year, empty_tally, tally_of}
 use Rattle.year_tally.specs.TallyAdd.{fits64, tally_add}
+use Rattle.year_tally.specs.TallyAddLaws.{fits_so}
+use Rattle.arithmetic.specs.Spaced as Arithmetic
 use Rattle.year_tally.specs.declared.Tally.{Tally}
 use Rattle.tally.specs.YearSums.{cells, entry_at, year_sum, tally_in, Small, small_entry, below_fits, none_lost}
 
@@ -23,6 +25,10 @@ use Rattle.tally.specs.YearSums.{cells, entry_at, year_sum, tally_in, Small, sma
 pub record Spaced (a d n : ℕ) (xs : List ℤ) : Type 0 where
   pub places : (k : ℕ) → k < n → a + d * k < length xs
   pub fits : (k : ℕ) → k ≤ n → fits64 (sum k (λ i. at xs (a + d * i))) ≡ true
+
+-- such entries have a sum (`arithmetic`)
+pub evenly : {a d n : ℕ} {xs : List ℤ} → Spaced a d n xs → Arithmetic.Spaced a d n xs
+evenly s = record { places = s.places; fits = λ k l. fits_so _ (s.fits k l) }
 
 -- entries one place apart
 pub total_is : (n : ℕ) (xs : List ℤ) → sum n (λ k. at xs (0 + 1 * k)) ≡ sum n (at xs)

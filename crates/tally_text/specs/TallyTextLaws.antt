@@ -10,7 +10,9 @@ use Rattle.model.specs.Calendar.{digits, amount, line, lines, all_lines, tally_t
 use Rattle.year_tally.specs.TallyAdd.{fits64}
 use Rattle.year_tally.specs.declared.Tally.{Tally}
 use Rattle.text.specs.Digits.{digits_length}
-use Rattle.text.specs.Amount.{amount_length}
+use Rattle.text.specs.Amount.{amount_length, aligned_none}
+use Rattle.model.specs.Page.{aligned}
+use Rattle.tally_text.specs.declared.Layout.{Layout}
 use Rattle.tally.specs.Printable.{Printable}
 
 -- a space and an amount
@@ -20,6 +22,21 @@ field z = (32 ∷ []) ++ amount z
 -- what stands behind a line's name
 unfoldable pub sums : ℤ → ℤ → List ℕ
 sums x y = field x ++ field y ++ field (x +ℤ y) ++ (10 ∷ [])
+
+-- the same with the amounts at the right of `width` bytes
+unfoldable pub field_in : ℕ → ℤ → List ℕ
+field_in width z = (32 ∷ []) ++ aligned width (amount z)
+
+unfoldable pub sums_in : ℕ → ℤ → ℤ → List ℕ
+sums_in width x y = field_in width x ++ field_in width y ++ field_in width (x +ℤ y) ++ (10 ∷ [])
+
+-- a line in a layout
+unfoldable pub laid : Layout → List ℕ → ℤ → ℤ → List ℕ
+laid o name x y = aligned o.year name ++ sums_in o.amount x y
+
+-- that of `closing`'s text
+abbrev pub plain : Layout
+plain = record { year = 0; amount = 0 }
 
 -- ---- the parts
 
@@ -105,3 +122,56 @@ module _ (m : ℕ) (t : Tally) (few : m ≤ 20) (p : Printable m t) where
       let n = 2 * m - 2 in
       let s = sums_length (sum n (at t.rbns)) (sum n (at t.ibnr)) (p.first_total n (omega arith)) (p.second_total n (omega arith)) p.total in
       omega (arith, tally_text_size m t, lines_length n (omega arith))
+
+-- ---- in a layout
+
+-- two layouts in which each line is the same
+pub lines_same : (a b : List ℕ → ℤ → ℤ → List ℕ) (t : Tally) (n : ℕ)
+    → ((k : ℕ) → k < n → a (digits (k + 1)) (at t.rbns k) (at t.ibnr k) ≡ b (digits (k + 1)) (at t.rbns k) (at t.ibnr k)) → lines a t n ≡ lines b t n
+lines_same a b t zero h = lines_none a t ∙ sym (lines_none b t)
+lines_same a b t (suc n) h =
+    rw (sym (add-one n)) (lines_next a t n ∙ rw (lines_same a b t n (λ k l. h k (omega arith)), h n (omega arith)) (sym (lines_next b t n)))
+
+sums_plain : (x y : ℤ) → sums_in 0 x y ≡ sums x y
+unfolding sums_in field_in sums field
+sums_plain x y = rw (aligned_none (amount x), aligned_none (amount y), aligned_none (amount (x +ℤ y)))
+
+pub plain_lines : (t : Tally) (n : ℕ) → lines line t n ≡ lines (laid plain) t n
+unfolding laid
+plain_lines t n =
+    lines_same line (laid plain) t n
+    (λ k l. line_is_lem (digits (k + 1)) (at t.rbns k) (at t.ibnr k) ∙ rw (aligned_none (digits (k + 1)), sums_plain (at t.rbns k) (at t.ibnr k)))
+
+module _ (o : Layout) (t : Tally) where
+  pub laid_next : (k : ℕ) → lines (laid o) t (k + 1) ≡ lines (laid o) t k ++ (aligned o.year (digits (k + 1)) ++ sums_in o.amount (at t.rbns k) (at t.ibnr k))
+  unfolding laid
+  laid_next k = lines_next (laid o) t k
+
+  laid_size : (k : ℕ) → length (lines (laid o) t (k + 1)) ≡ length (lines (laid o) t k) + (length (aligned o.year (digits (k + 1))) + length (sums_in o.amount (at t.rbns k) (at t.ibnr k)))
+  laid_size k = ap length (laid_next k) ∙ simp length-append
+
+  -- the next line has room where n lines have it
+  pub laid_room : (k n : ℕ) → k < n
+      → length (lines (laid o) t k) + (length (aligned o.year (digits (k + 1))) + length (sums_in o.amount (at t.rbns k) (at t.ibnr k))) ≤ length (lines (laid o) t n)
+  laid_room k n h =
+      rw (sym (laid_size k))
+      (le_ind (λ i. length (lines (laid o) t (k + 1)) ≤ length (lines (laid o) t i)) (le_refl (length (lines (laid o) t (k + 1))))
+      (λ i l e. rw (sym (add-one i)) (omega (arith, laid_size i))) n (omega arith))
+
+pub field_in_size : (width : ℕ) (z : ℤ) → length (field_in width z) ≡ 1 + length (aligned width (amount z))
+unfolding field_in
+field_in_size width z = omega arith
+
+pub sums_in_size : (width : ℕ) (x y : ℤ) → length (sums_in width x y) ≡ length (field_in width x) + length (field_in width y) + length (field_in width (x +ℤ y)) + 1
+unfolding sums_in
+sums_in_size width x y = simp length-append
+
+-- the text of a tally in the plain layout
+pub plain_text : (m : ℕ) (t : Tally)
+    → tally_text m t ≡ lines (laid plain) t (2 * m - 2) ++ ((84 ∷ []) ++ sums_in 0 (sum (2 * m - 2) (at t.rbns)) (sum (2 * m - 2) (at t.ibnr)))
+plain_text m t =
+    tally_text_is m t ∙ rw (plain_lines t (2 * m - 2), sums_plain (sum (2 * m - 2) (at t.rbns)) (sum (2 * m - 2) (at t.ibnr)))
+
+pub plain_size : (m : ℕ) (t : Tally)
+    → length (tally_text m t) ≡ length (lines (laid plain) t (2 * m - 2)) + (1 + length (sums_in 0 (sum (2 * m - 2) (at t.rbns)) (sum (2 * m - 2) (at t.ibnr))))
+plain_size m t = ap length (plain_text m t) ∙ simp length-append (omega arith)

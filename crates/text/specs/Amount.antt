@@ -1,7 +1,10 @@
--- Laws of an amount's text: how long it is, and that it reads back as the amount. Assumes nothing.
-use Rattle.std.specs.Prelude.{◌≡◌, true, false, List, [], ◌∷◌, ℕ, suc, ◌^◌, ◌≤◌, eqb, ℤ, pos, negsuc, neg_ℤ, length, get_or}
-use Rattle.std.proofs.Common.{ap, ◌∙◌, arith, ne_eqb, ltb-true}
+-- Laws of an amount's text: how long it is, alone and at the right of a field, and that it reads
+-- back as the amount. Assumes nothing.
+use Rattle.std.specs.Prelude.{◌≡◌, refl, true, false, List, [], ◌∷◌, ℕ, suc, ◌+◌, ◌-◌, ◌^◌, ◌≤◌, eqb, ℤ, pos, negsuc, neg_ℤ, length, get_or, replicate}
+use Rattle.std.proofs.Common.{ap, ◌∙◌, arith, length-append, ne_eqb, ltb-true}
+use Rattle.std.proofs.lemmas.List.{length-replicate}
 use Rattle.model.specs.Calendar.{digits, amount, value_from}
+use Rattle.model.specs.Page.{aligned}
 use Rattle.year_tally.specs.TallyAdd.{fits64}
 use Rattle.text.specs.Digits.{value_digits, leads, digits_length}
 
@@ -26,3 +29,13 @@ pub amount_length : (z : ℤ) → fits64 z ≡ true → length (amount z) ≤ 20
 unfolding amount fits64
 amount_length (pos n) e = let h = ltb-true n (2 ^ 63) e in omega (arith, digits_length 18 n (omega arith))
 amount_length (negsuc n) e = let h = ltb-true n (2 ^ 63) e in omega (arith, digits_length 18 (suc n) (omega arith))
+
+-- ---- at the right of a field
+
+pub aligned_size : (width : ℕ) (s : List ℕ) → length (aligned width s) ≡ width - length s + length s
+unfolding aligned
+aligned_size width s = length-append (replicate (width - length s) 32) s ∙ rw (length-replicate {A = ℕ} (width - length s) 32) refl
+
+pub aligned_none : (s : List ℕ) → aligned 0 s ≡ s
+unfolding aligned
+aligned_none s = let e : 0 - length s ≡ 0 = omega arith in rw e

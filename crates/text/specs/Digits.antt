@@ -3,6 +3,7 @@
 use Rattle.std.specs.Prelude.{◌≡◌, refl, List, [], ◌∷◌, ◌++◌, ◌⊎◌, ℕ, zero, suc, ◌+◌, ◌-◌, ◌*◌, ◌/◌, ◌%◌, ◌^◌, ◌≤◌, ◌<◌, length, get_or}
 use Rattle.std.proofs.Common.{sym, ap, ◌∙◌, inl, inr, ⊎_elim, pow-suc, not-suc-le-zero, length-append, lt-ltb, le-ltb}
 use native.Mathlib.Omega.{arith, not-le}
+use Rattle.std.proofs.Math.Nat.{pow-le-pow_right}
 use Rattle.std.proofs.Math.Decide.{dec_lt}
 use Rattle.std.proofs.Math.ListN.{get_or-append}
 use Rattle.model.specs.Calendar.{digits_in, digits, value_from}
@@ -69,6 +70,20 @@ digits_length (suc j) n h =
     let q : n / 10 < 10 ^ suc j = omega (arith, pow-suc 10 (suc j)) in
     omega (arith, length_large n l, digits_length j (n / 10) q))
     (small_or_large n)
+
+-- a number from 10^k on has more than k digits
+more_digits : (k n : ℕ) → 10 ^ k ≤ n → k < length (digits n)
+more_digits zero n h = ⊎_elim (λ s. omega (arith, length_small n s)) (λ l. omega (arith, length_large n l)) (small_or_large n)
+more_digits (suc j) n h =
+    let p : 10 ^ suc j ≡ 10 ^ j * 10 = pow-suc 10 j in
+    let q : 10 ^ j ≤ n / 10 = omega arith in
+    let l : 1 ≤ 10 ^ j = pow-le-pow_right {n = 10} (omega arith) {i = 0} {j = j} (omega arith) in
+    omega (arith, length_large n (omega arith), more_digits j (n / 10) q)
+
+pub digits_count : (k n : ℕ) → 10 ^ k ≤ n → n < 10 * 10 ^ k → length (digits n) ≡ k + 1
+digits_count k n h l =
+    let p : 10 ^ suc k ≡ 10 ^ k * 10 = pow-suc 10 k in
+    omega (arith, more_digits k n h, digits_length k n (omega arith))
 
 -- ---- reading back
 

@@ -1,6 +1,7 @@
 -- A text written into lent memory from a place on, and the place after it. Assumes nothing.
-use Rattle.std.specs.Prelude.{◌≡◌, refl, List, [], ◌∷◌, ◌++◌, ℕ, ◌+◌, ◌≤◌, ◌<◌, length, set}
-use Rattle.std.proofs.Common.{sym, ap, ◌∙◌, add-zero, zero-add, arith, length-append}
+use Rattle.std.specs.Prelude.{◌≡◌, refl, List, [], ◌∷◌, ◌++◌, ℕ, ◌+◌, ◌≤◌, ◌<◌, length, take, drop, set}
+use Rattle.std.proofs.Common.{sym, ap, ◌∙◌, add-zero, zero-add, append_assoc, arith, length-append}
+use Rattle.std.proofs.Math.Seq.{drop-drop}
 use Rattle.model.specs.Overlay.{overlay, overlay_none, overlay_store, overlay_more, length_overlay}
 
 -- after is before with text from place a on, and next the place after it, within the memory
@@ -22,6 +23,13 @@ written_byte before a b h =
       end = refl;
       room = omega arith;
     }
+
+-- a text in the place of as many bytes
+pub written_over : (before text : List ℕ) (a k : ℕ) → k ≡ length text → a + k ≤ length before
+    → Written before a text (take a before ++ (text ++ drop k (drop a before))) (a + k)
+unfolding overlay
+written_over before text a k e h =
+    record { bytes = rw (drop-drop k a before, e) (sym (append_assoc (take a before) text (drop (a + length text) before))); end = rw e; room = omega arith }
 
 -- a text behind a text
 pub written_then : {before s middle t after : List ℕ} {a p q : ℕ} → Written before a s middle p → Written middle p t after q → Written before a (s ++ t) after q

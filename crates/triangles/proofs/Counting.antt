@@ -1,16 +1,9 @@
 -- The flags and the cells of the reader's loop, one record at a time. Assumes nothing.
-use Prim.Native.Nat.{ℕ, zero, suc, ◌+◌, ◌<◌, ◌≤◌}
-use mathlib.Core.Logic.{⊎_elim}
-use native.Mathlib.Nat.{add-zero, not-suc-le-zero, eq-or-lt_of_le, le_of_suc-le-suc}
-use native.Mathlib.Numerals.{add-one}
-use native.Mathlib.Omega.{arith}
-use mathlib.Core.Path.{◌≡◌, refl, sym, ap, subst, ◌∙◌}
-use mathlib.Core.Bool.{Bool, true, cond}
-use mathlib.Core.List.{List}
-use borrow.Author.Tests.{eq-eqb, ne_eqb, eqb-true}
-use lib.Dec.{eqb}
-use lib.IntN.{ℤ, pos, ◌+ℤ◌, +ℤ_idl, +ℤ_idr}
-use lib.ListN.{length, get_or, set, length-set, get_or-replicate, replicate}
+use Rattle.std.specs.Prelude.{ℕ, zero, suc, ◌+◌, ◌<◌, ◌≤◌, ◌≡◌, refl, Bool, true, false, not, cond, List, eqb, length, get_or, set, replicate, ℤ, pos, ◌+ℤ◌}
+use Rattle.std.proofs.Common.{⊎_elim, add-zero, add-one, not-suc-le-zero, eq-or-lt_of_le, le_of_suc-le-suc, arith, sym, ap, subst, ◌∙◌, eq-eqb, eqb-true, length-set}
+use borrow.Author.Tests.{ne_eqb}
+use Rattle.std.proofs.Math.IntN.{+ℤ_idl, +ℤ_idr}
+use Rattle.std.proofs.Math.ListN.{get_or-replicate}
 use Rattle.integers.specs.Sums.{sum}
 use Rattle.model.specs.Lists.{at, every, total, count}
 use Rattle.model.specs.ListsLaws.{and_left, and_right, every_at, every_all}
@@ -75,18 +68,18 @@ module _ (f : List ℕ) where
   so_once n h = every_all _ n (λ k l. eq-eqb (key_count f k (key_at f k)) 0 (omega (arith, count_at n k l, h k l)))
 
   -- ---- the flags: whether a key stood there
-  abbrev pub Flags : ℕ → List ℕ → Type 0
-  Flags k seen = (length seen ≡ 1200) × ((q : ℕ) → q < 1200 → eqb (get_or seen q 0) 0 ≡ eqb (key_count f k q) 0)
+  abbrev pub Flags : ℕ → List Bool → Type 0
+  Flags k seen = (length seen ≡ 1200) × ((q : ℕ) → q < 1200 → not (get_or seen q false) ≡ eqb (key_count f k q) 0)
 
-  pub flags_none : Flags 0 (replicate 1200 0)
-  flags_none = (refl, λ q h. rw (get_or-replicate {A = ℕ} 1200 q 0 0 h, count_none q))
+  pub flags_none : Flags 0 (replicate 1200 false)
+  flags_none = (refl, λ q h. rw (get_or-replicate {A = Bool} 1200 q false false h, count_none q))
 
-  pub flags_more : (k q : ℕ) (seen : List ℕ) → q ≡ key_at f k → q < 1200 → Flags k seen → Flags (k + 1) (set seen q 1)
+  pub flags_more : (k q : ℕ) (seen : List Bool) → q ≡ key_at f k → q < 1200 → Flags k seen → Flags (k + 1) (set seen q true)
   flags_more k q seen e l is = (simp length-set is.0, one)
     where
-      one : (r : ℕ) → r < 1200 → eqb (get_or (set seen q 1) r 0) 0 ≡ eqb (key_count f (k + 1) r) 0
+      one : (r : ℕ) → r < 1200 → not (get_or (set seen q true) r false) ≡ eqb (key_count f (k + 1) r) 0
       one r h =
-          rw (get_d_set seen q r 1 0 (omega (arith, is.0)), count_more k r, ← e)
+          rw (get_d_set seen q r true false (omega (arith, is.0)), count_more k r, ← e)
           (by_test (eqb q r) (λ y. rw (y, ne_eqb (key_count f k r + 1) 0 (λ z. omega arith))) (λ y. rw (y, add-zero) (is.1 r h)))
 
   -- ---- the cells: where no key stood there twice, each is the sum of its key's values

@@ -7,10 +7,12 @@ ghost use Rattle.std.specs.Prelude.{◌≡◌, ◌≤◌, ◌<◌, pos, replicat
 ghost use Rattle.model.specs.Records.{line_of, has_incurred};
 ghost use Rattle.model.specs.Calls.{if_accepted, refused_read, read_answer};
 ghost use Rattle.model.specs.Lent.{triangle_in, ReadInto};
+ghost use Rattle.refusals.specs.Refusals.{refusal_number};
 
-use records::{fields, questions};
+use records::questions;
+use refusals::Refusal;
 
-// A refusal, with zeros beside it.
+// A refusal, with zeros beside it; each answer has fields of its own, so each has its own.
 fn refused(number: u64) -> model::ReadAnswer
     ensures { result ≡ refused_read number }
 {
@@ -28,6 +30,7 @@ fn refused(number: u64) -> model::ReadAnswer
 }
 
 // Whether a file's length is that of a set with incurred.
+#[tactic(auto, using(model::specs::Lengths::set_most), unfolding(model::specs::Records::has_incurred))]
 pub fn has_incurred(file: &[u8], m: usize) -> bool
     requires { m ≤ 20 }
     ensures { result ≡ has_incurred m file.now }
@@ -39,53 +42,43 @@ pub fn has_incurred(file: &[u8], m: usize) -> bool
 pub fn line(file: &[u8]) -> u64
     ensures { result ≡ line_of file.now }
 {
-    if file.len() < 4 {
-        return 0;
-    }
-    fields::byte(file, 3) as u64
+    u64::from(file.get(3).copied().unwrap_or(0))
 }
 
-// Stores the line of a file beside its refusal number, where that is 0.
-pub fn store_line(file: &[u8], number: u64, out: &mut u64)
-    ensures { out.new ≡ if_accepted number (line_of file.now) out.old }
+// Stores the line of a file that is accepted.
+pub fn store_line(file: &[u8], answer: Result<(), Refusal>, out: &mut u64)
+    ensures { out.new ≡ if_accepted (refusal_number answer) (line_of file.now) out.old }
 {
-    if number != 0 {
-        return;
+    if answer.is_ok() {
+        *out = line(file);
     }
-    *out = line(file);
 }
 
 // Questions 1 to 5 of a file and, where it is accepted, its set in the lent list, which comes as
-// zeros.
-pub fn read_cells(file: &[u8], m: usize, set: &mut [i64; 1200]) -> u64
+// zeros. One list for three triangles, since a record is stored by one key (`key_at`).
+pub fn read_cells(file: &[u8], m: usize, set: &mut [i64; 1200]) -> Result<(), Refusal>
     requires { set.old ≡ replicate 1200 (pos 0) }
-    ensures { ReadInto m file.now result set.new }
+    ensures { ReadInto m file.now (refusal_number result) set.new }
 {
-    if questions::q1(m) {
-        let incurred = has_incurred(file, m);
-        let n = questions::set_records(m, incurred);
-        if file.len() == 16 * n {
-            let kinds = questions::kinds(incurred);
-            return cells::read_records(file, m, kinds, line(file) as usize, n, set);
-        }
-        return 2;
+    if !questions::q1(m) {
+        return Err(Refusal::Size);
     }
-    1
+    let incurred = has_incurred(file, m);
+    let n = questions::set_records(m, incurred);
+    if file.len() != 16 * n {
+        return Err(Refusal::FileLength);
+    }
+    let kinds = questions::kinds(incurred);
+    cells::read_records(file, m, kinds, line(file) as usize, n, set)
 }
 
-// The triangle of a kind, copied out of a set. The zeros say for the proof what the places hold
-// before.
+// The triangle of a kind, 0 to 2 as `triangle_in` numbers its place in the list, copied out of a
+// set.
 pub fn copy_kind(set: &[i64; 1200], kind: usize, out: &mut [i64; 400])
     requires { kind < 3 }
     ensures { out.new ≡ triangle_in kind set.now }
 {
-    let none = [0i64; 400];
-    *out = none;
-    let mut p = 0;
-    while p < 400 {
-        out[p] = set[400 * kind + p];
-        p += 1;
-    }
+    out.copy_from_slice(&set[400 * kind..400 * kind + 400]);
 }
 
 // The reader: questions 1 to 5, and the set.
@@ -93,9 +86,8 @@ pub fn read_set(file: &[u8], m: usize) -> model::ReadAnswer
     ensures { result ≡ read_answer m file.now }
 {
     let mut set = [0i64; 1200];
-    let refusal = read_cells(file, m, &mut set);
-    if refusal != 0 {
-        return refused(refusal);
+    if let Err(refusal) = read_cells(file, m, &mut set) {
+        return refused(u64::from(refusal));
     }
     let mut counts = [0i64; 400];
     copy_kind(&set, 0, &mut counts);

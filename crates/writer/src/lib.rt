@@ -7,29 +7,12 @@ ghost use Rattle.model.specs.Overlay.{overlay};
 ghost use Rattle.model.specs.SetFile.{word, record_of, file_of};
 ghost use Rattle.writer.specs.Written.{year_bytes, kind_bytes};
 
-// A signed number as a word.
-fn to_word(v: i64) -> usize
-    ensures { result ≡ word v }
-{
-    if v >= 0 {
-        return v as usize;
-    }
-    let y = -1 - v;
-    18446744073709551615 - (y as usize)
-}
-
 // The bytes of a record: its kind, its accident year, delay and line, and its value as a word.
-fn record_bytes(kind: usize, year: usize, delay: usize, line: usize, x: usize) -> [u8; 16]
+fn record_bytes(kind: usize, year: usize, delay: usize, line: usize, value: i64) -> [u8; 16]
     requires { (kind < 3) × (year ≤ 20) × (delay < 20) × (line ≤ 5) }
-    ensures { result ≡ record_of kind year delay line x }
+    ensures { result ≡ record_of kind year delay line (word value) }
 {
-    let x1 = x / 256;
-    let x2 = x1 / 256;
-    let x3 = x2 / 256;
-    let x4 = x3 / 256;
-    let x5 = x4 / 256;
-    let x6 = x5 / 256;
-    let x7 = x6 / 256;
+    let w = value.to_le_bytes();
     [
         kind as u8,
         year as u8,
@@ -39,26 +22,25 @@ fn record_bytes(kind: usize, year: usize, delay: usize, line: usize, x: usize) -
         0,
         0,
         0,
-        (x % 256) as u8,
-        (x1 % 256) as u8,
-        (x2 % 256) as u8,
-        (x3 % 256) as u8,
-        (x4 % 256) as u8,
-        (x5 % 256) as u8,
-        (x6 % 256) as u8,
-        (x7 % 256) as u8,
+        w[0],
+        w[1],
+        w[2],
+        w[3],
+        w[4],
+        w[5],
+        w[6],
+        w[7],
     ]
 }
 
-// Copies a record into the output, from index a on.
+// Copies a record into the output, from index a on. By index: `copy_from_slice` of each record made
+// the writer take twice as long.
 fn put(out: &mut [u8], a: usize, bytes: [u8; 16])
     requires { a + 16 ≤ length out.old }
     ensures { out.new ≡ overlay out.old a bytes }
 {
-    let mut k = 0;
-    while k < 16 {
+    for k in 0..16 {
         out[a + k] = bytes[k];
-        k += 1;
     }
 }
 
@@ -79,12 +61,10 @@ fn put_year(
     ensures out_after { out.new ≡ overlay out.old a (year_bytes line kind cells.now year n) }
 {
     let mut next = a;
-    let mut j = 0;
-    while j < n {
+    for j in 0..n {
         let v = cells[20 * (year - 1) + j];
-        put(out, next, record_bytes(kind, year, j, line, to_word(v)));
+        put(out, next, record_bytes(kind, year, j, line, v));
         next += 16;
-        j += 1;
     }
     next
 }
@@ -104,15 +84,14 @@ fn put_kind(
     ensures out_after { out.new ≡ overlay out.old a (kind_bytes m line kind cells.now) }
 {
     let mut next = a;
-    let mut k = 0;
-    while k < m {
+    for k in 0..m {
         next = put_year(out, next, line, kind, cells, k + 1, m - k);
-        k += 1;
     }
     next
 }
 
-// Writes the set's file at the front of the output: by kind, then year, then delay.
+// Writes the set's file at the front of the output: by kind, then year, then delay. A kind is the
+// number that its records get; the flag is that of the writer's calls.
 pub fn put_set<'a>(
     m: usize,
     line: usize,

@@ -1,13 +1,14 @@
 -- Laws of TallyAdd: when a sum of two signed 64-bit numbers is one, by the difference of one of
--- them and the end of the range. Assumes nothing.
-use Rattle.std.specs.Prelude.{◌≡◌, refl, Bool, true, false, ◌⊎◌, ℕ, zero, suc, ◌+◌, ◌-◌, ◌^◌, ◌<◌, ◌≤◌, leb, ltb, ℤ, pos, negsuc, ◌+ℤ◌, ◌-ℤ◌}
+-- them and the end of the range, and the tally in each case. Assumes nothing.
+use Rattle.std.specs.Prelude.{◌≡◌, refl, Bool, true, false, ◌⊎◌, ℕ, zero, suc, ◌+◌, ◌-◌, ◌^◌, ◌<◌, ◌≤◌, leb, ltb, ℤ, pos, negsuc, ◌+ℤ◌, ◌-ℤ◌, get_or, set}
 use Rattle.std.proofs.Common.{sym, ◌∙◌, ⊎_elim, inl, inr, arith, SFits, ltb-true, ltb-false, lt-ltb, le-ltb, le-leb}
 use Rattle.std.proofs.Math.IntN.{sub_ℕ}
 use Rattle.std.specs.Int.Signed.{le_z, lt_z}
 use Rattle.std.specs.Int.{w64}
 use Rattle.std.proofs.lemmas.Bool.{lt-leb}
 use denote.Floats.{passes}
-use Rattle.year_tally.specs.TallyAdd.{fits64}
+use Rattle.year_tally.specs.TallyAdd.{fits64, tally_add}
+use Rattle.year_tally.specs.declared.Tally.{Tally}
 
 by_bool : (a b : ℕ) (t : Bool) → ltb a b ≡ t → (a < b) ⊎ (b ≤ a)
 by_bool a b true e = inl (ltb-true a b e)
@@ -89,3 +90,40 @@ high_sub (negsuc k) e h = absurd (passes false (sym e))
 pub high_test : (a b : ℤ) → lt_z b (pos 0) ≡ false → SFits w64 a → SFits w64 b → le_z a (highest -ℤ b) ≡ fits64 (a +ℤ b)
 high_test a (pos k) e ha h = rw (high_sub_is k h.sfits) (high_is a k ha h.sfits)
 high_test a (negsuc k) e ha h = absurd (passes false (sym e))
+
+by_fits : (z : ℤ) (t : Bool) → fits64 z ≡ t → (SFits w64 z → ⊥) → fits64 z ≡ false
+by_fits z true e none = absurd (none (fits_so z e))
+by_fits z false e none = e
+
+pub no_fits : (z : ℤ) → (SFits w64 z → ⊥) → fits64 z ≡ false
+no_fits z none = by_fits z (fits64 z) refl none
+
+-- ---- the cases of a tally with a cell added
+
+module _ (t : Tally) (year : ℕ) (x y : ℤ) where
+  pub year_low : year < 1 → t ≡ tally_add t year x y
+  unfolding tally_add
+  year_low h = rw (lt-leb 1 year h)
+
+  pub year_high : 1 ≤ year → 38 < year → t ≡ tally_add t year x y
+  unfolding tally_add
+  year_high l h = rw (le-leb 1 year l, lt-leb year 38 h)
+
+  module _ (low : 1 ≤ year) (high : year ≤ 38) where
+    abbrev a : ℤ
+    a = get_or t.rbns (year - 1) (pos 0) +ℤ x
+
+    abbrev b : ℤ
+    b = get_or t.ibnr (year - 1) (pos 0) +ℤ y
+
+    pub rbns_past : (SFits w64 a → ⊥) → t ≡ tally_add t year x y
+    unfolding tally_add
+    rbns_past none = rw (le-leb 1 year low, le-leb year 38 high, no_fits a none)
+
+    pub ibnr_past : SFits w64 a → (SFits w64 b → ⊥) → t ≡ tally_add t year x y
+    unfolding tally_add
+    ibnr_past f none = rw (le-leb 1 year low, le-leb year 38 high, so_fits a f, no_fits b none)
+
+    pub both_fit : SFits w64 a → SFits w64 b → record { rbns = set t.rbns (year - 1) a; ibnr = set t.ibnr (year - 1) b } ≡ tally_add t year x y
+    unfolding tally_add
+    both_fit f g = rw (le-leb 1 year low, le-leb year 38 high, so_fits a f, so_fits b g)

@@ -1,8 +1,9 @@
 -- What Ready gives of a year i: its count share and latest sum as they stand in the lists, and that
 -- its weights are weights. Assumes nothing.
-use Rattle.std.specs.Prelude.{◌≡◌, Bool, cond, ℕ, suc, ◌+◌, ◌-◌, ◌≤◌, ◌<◌, eqb, ℤ, pos}
-use Rattle.std.proofs.Common.{sym, ◌∙◌, arith, eq-eqb, eqb-true}
+use Rattle.std.specs.Prelude.{◌≡◌, refl, ◌↔◌, Bool, cond, ℕ, suc, ◌+◌, ◌-◌, ◌*◌, ◌^◌, ◌≤◌, ◌<◌, eqb, ℤ, pos, nat_abs}
+use Rattle.std.proofs.Common.{w64, to_z, of_z, sym, ◌∙◌, arith, eq-eqb, ne_eqb, eqb-true}
 use Rattle.std.proofs.Math.Path.{ap}
+use Rattle.std.proofs.lemmas.Bool.{eqb-false}
 use Rattle.std.proofs.Math.Bool.{true, false}
 use mathlib.Core.List.{List}
 use Rattle.integers.specs.Order.{nat_abs_mono}
@@ -14,8 +15,11 @@ use Rattle.model.specs.Shares as Shares
 use Rattle.model.specs.Shares.{g_list}
 use Rattle.ladder.specs.SharesLaws.{g_range}
 use Rattle.cells.specs.Weights.{Weights, Counted, actual_weight, weights_from}
-use Rattle.cells.specs.CellOf.{Year, sums_from}
+use Rattle.cells.specs.CellOf.{number, Year, sums_from}
+use Rattle.cells.specs.declared.Basis.{Basis}
+use Rattle.cells.specs.declared.Basis.TheVariants.{Actual, Estimated}
 use Rattle.cells.specs.SumsFromLaws.{sums_fit}
+use Rattle.cells.specs.SmallLaws.{read_back}
 use Rattle.years.specs.WeightsLaws.{shares_weights, actual_weights}
 use Rattle.years.specs.Ready.{Ready, year_weights}
 
@@ -28,6 +32,18 @@ module _ (m : ℕ) (t : List ℤ) (basis : ℕ) (g latest : List ℤ) (i : ℕ) 
   pub same_weights : (s shares : List ℤ) → (basis ≡ 1 → s ≡ shares) → year_weights m t basis s g latest i ≡ year_weights m t basis shares g latest i
   unfolding year_weights weights_from
   same_weights s shares e = by_test (eqb basis 1) (λ q. rw (e (eqb-true basis 1 q))) (λ q. rw q)
+
+-- 1 is the number of estimated counts alone
+pub is_estimated : (b : Basis) → number b ≡ 1 → b ≡ Estimated
+is_estimated Estimated e = refl
+is_estimated Actual e = absurd (omega arith)
+
+-- numbers that are 1 together give the same weights
+pub same_basis : (m : ℕ) (t : List ℤ) {b n : ℕ} (shares g latest : List ℤ) (i : ℕ) → (b ≡ 1) ↔ (n ≡ 1) → year_weights m t b shares g latest i ≡ year_weights m t n shares g latest i
+unfolding year_weights weights_from
+same_basis m t {b} {n} shares g latest i h =
+    by_test (eqb b 1) (λ q. rw (q, eq-eqb n 1 (h.0 (eqb-true b 1 q))))
+    (λ q. rw (q, ne_eqb n 1 (λ e. eqb-false b 1 q (h.1 e))))
 
 module _ {m : ℕ} {t shares g latest v p : List ℤ} (z : Ready m t shares g latest v p) where
   abbrev some : 1 ≤ m
@@ -86,3 +102,14 @@ module _ {m : ℕ} {t shares g latest v p : List ℤ} (z : Ready m t shares g la
       whole_is = λ b. w b ∙ ap (λ (s : List ℤ). sums_from m 0 s p) (sym (estimated m t basis g latest i shares b));
       later_is = λ b. e ∙ ap (λ (s : List ℤ). sums_from m (m - i + 1) s p) (sym (estimated m t basis g latest i shares b));
     }
+
+  -- year k + 1 as a loop over the years has its row base, weights and sums
+  module _ (k : ℕ) (h : k < m) where
+    pub base_back : to_z w64 (of_z w64 (at v k)) ≡ at v k
+    base_back = read_back (at v k) (omega (arith, z.bases k h))
+
+    pub next_year : (basis : ℕ) {whole u s : List ℤ} → (basis ≡ 1 → whole ≡ sums_from m 0 shares p) → u ≡ sums_from m (m - k) shares p → s ≡ year_weights m t basis shares g latest (k + 1)
+        → Year m (k + 1) basis whole u s p × (nat_abs (to_z w64 (of_z w64 (at v k))) ≤ 2 * 10 ^ 14)
+    next_year basis w e s_is =
+        let q : m - k ≡ m - (k + 1) + 1 = omega arith in
+        (rw s_is (year (k + 1) (omega arith) (omega arith) basis w (e ∙ ap (λ (c : ℕ). sums_from m c shares p) q)), rw base_back (z.bases k h))

@@ -12,7 +12,8 @@ ghost use Rattle.cells.specs.Weights.{Weights, Delays};
 ghost use Rattle.cells.specs.CellOf.{sums_from, years_entries};
 ghost use Rattle.years.specs.Ready.{Ready, year_weights};
 
-use cells::write_year;
+use cells::{Basis, YearParts};
+use ladder::ChainLadder;
 use weights::weights;
 
 // From the sums of b(k) × p(j-k) over the reporting delays after k, for each j, those over the
@@ -23,10 +24,8 @@ pub fn one_more_delay(sums: &mut [i64; 39], b: &[i64; 20], p: &[i64; 20], m: usi
     ensures { sums.new ≡ sums_from m k b.now p.now }
 {
     let share = b[k];
-    let mut l = 0;
-    while l < m {
+    for l in 0..m {
         sums[k + l] += share * p[l];
-        l += 1;
     }
 }
 
@@ -36,53 +35,48 @@ pub fn whole_sums(sums: &mut [i64; 39], b: &[i64; 20], p: &[i64; 20], m: usize)
     requires weights { Weights b.now × Delays p.now }
     ensures { sums.new ≡ sums_from m 0 b.now p.now }
 {
-    let mut k = m;
-    while 0 < k {
-        k -= 1;
+    for k in (0..m).rev() {
         one_more_delay(sums, b, p, m, k);
     }
 }
 
 // The cell forecast of years 1 to m, at the front of the output: v holds the row bases, p the
-// delays, and shares, g and latest are those of counts. A year leaves one reporting delay fewer to
-// the reported claims than the year before it.
-pub fn cell_forecast<'a>(
+// delays, and shares are those of counts. A year leaves one reporting delay fewer to the reported
+// claims than the year before it.
+pub fn cell_forecast(
     out: &mut [i64],
     m: usize,
     basis: u64,
-    set: &'a [i64; 1200],
-    shares: &'a [i64; 20],
-    g: &'a [i64; 20],
-    latest: &'a [i64; 20],
-    v: &'a [i64; 20],
+    set: &[i64; 1200],
+    shares: &[i64; 20],
+    counts: &ChainLadder,
+    v: &[i64; 20],
     p: [i64; 20],
 )
-    requires ready { Ready m (triangle_in 0 set.now) shares.now g.now latest.now v.now p }
+    requires ready { Ready m (triangle_in 0 set.now) shares.now counts.now.g counts.now.latest v.now p }
     requires m_in_bounds { size m ≤ length out.old }
-    ensures { out.new ≡ overlay out.old 0 (years_entries m v.now (year_weights m (triangle_in 0 set.now) basis shares.now g.now latest.now) shares.now p m) }
+    ensures { out.new ≡ overlay out.old 0 (years_entries m v.now (year_weights m (triangle_in 0 set.now) basis shares.now counts.now.g counts.now.latest) shares.now p m) }
 {
+    let basis = Basis::from(basis);
     let mut whole = [0i64; 39];
-    if basis == 1 {
+    if let Basis::Estimated = basis {
         whole_sums(&mut whole, shares, &p, m);
     }
     let mut unreported = [0i64; 39];
     let mut s = *shares;
-    let mut n = 0;
-    while n < m {
-        weights(&mut s, set, m, n + 1, basis, g, latest);
-        write_year(
-            out,
-            n * (2 * (2 * m - 1)),
-            v[n],
-            basis,
-            &whole,
-            &unreported,
-            &s,
-            &p,
+    for n in 0..m {
+        weights(&mut s, set, m, n + 1, basis, counts);
+        let year = YearParts {
             m,
-            n + 1,
-        );
+            i: n + 1,
+            v: v[n],
+            basis,
+            whole: &whole,
+            unreported: &unreported,
+            s: &s,
+            p: &p,
+        };
+        year.write(out, n * (2 * (2 * m - 1)));
         one_more_delay(&mut unreported, shares, &p, m, m - 1 - n);
-        n += 1;
     }
 }

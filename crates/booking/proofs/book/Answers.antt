@@ -1,46 +1,43 @@
 -- `book` meets its contract, by the laws of `Booking`. Assumes nothing.
-use Rattle.std.proofs.Common.{rules, ◌∙◌, sym, FitsSigned, w64}
-use mir.Facts.{to_z-of_z}
-use Rattle.booking.specs.Parts.{tally}
+use Rattle.std.proofs.Common.{◌∙◌, sym, rules, FitsSigned, w64}
+use Rattle.std.proofs.Math.Facts.{to_z-of_z}
+use Rattle.model.specs.Lists.{at}
 use Rattle.booking.specs.Fields.{one_of}
-use Rattle.booking.proofs.Booking.{report_17, report_18, report_yes, payment_17, payment_18, payment_yes}
+use Rattle.booking.proofs.Booking.{report_17, report_18, report, payment_17, payment_18, payment}
 use Rattle.booking.proofs.book.Goals as goal
+use Rattle.booking.proofs.book.Goals.{then-x-eq0+else-owner-ne0+in-Some, else-x-eq0+else-owner-x+in-Some-added}
 
 pub returns-then-owner-ne0 : goal.returns-then-owner-ne0
-returns-then-owner-ne0 c =
-    let t = tally c.args.claims.now c.args.counts.now c.args.paid.now c.args.last.now in
-    report_17 t c.args.x c.if-x-eq0.true (λ e. c.if-owner-ne0.true (c.wide-owner.ensures ∙ e))
+returns-then-owner-ne0 c = report_17 _ _ c.if-x-eq0.true (λ e. c.if-owner-ne0.true (c.from-owner.ensures ∙ e))
 
-pub returns-then-not-add : goal.returns-then-not-add
-returns-then-not-add c =
-    let t = tally c.args.claims.now c.args.counts.now c.args.paid.now c.args.last.now in
-    report_18 t c.args.x c.if-x-eq0.true c.add.new.cells c.add.new.last c.add.result c.add.ensures
-    (sym c.wide-owner.ensures ∙ c.if-owner-ne0.false) c.if-not-add.true
-
-pub returns-then-x-eq0 : goal.returns-then-x-eq0
-returns-then-x-eq0 c =
-    let t = tally c.args.claims.now c.args.counts.now c.args.paid.now c.args.last.now in
-    report_yes t c.args.x c.if-x-eq0.true c.add.new.cells c.add.new.last c.add.result c.add.ensures
-    (sym c.wide-owner.ensures ∙ c.if-owner-ne0.false) c.if-not-add.false
+pub returns-in_default : goal.returns-in_default
+returns-in_default c =
+    let cell : FitsSigned w64 (at c.args.t.now.counts c.place-place.result) = search rules in
+    report_18 _ _ c.if-x-eq0.true (sym c.from-owner.ensures ∙ c.if-owner-ne0.false) _ c.place-place.ensures.value _ (rw (to_z-of_z cell) at c.added.ensures) c.in_default.is
 
 pub returns-then-owner-x : goal.returns-then-owner-x
-returns-then-owner-x c =
-    let t = tally c.args.claims.now c.args.counts.now c.args.paid.now c.args.last.now in
-    payment_17 t c.args.x (one_of _ c.requires.kind_is c.if-x-eq0.false)
-    (λ e. c.if-owner-x.true (c.wide-owner.ensures ∙ e))
+returns-then-owner-x c = payment_17 _ _ (one_of _ c.requires.kind_is c.if-x-eq0.false) (λ e. c.if-owner-x.true (c.from-owner.ensures ∙ e))
 
-pub returns-then-not-add-2 : goal.returns-then-not-add-2
-returns-then-not-add-2 c =
-    let v : FitsSigned w64 c.args.x.amount = search rules in
-    let t = tally c.args.claims.now c.args.counts.now c.args.paid.now c.args.last.now in
-    payment_18 t c.args.x (one_of _ c.requires.kind_is c.if-x-eq0.false) c.add-2.new.cells
-    c.add-2.new.last c.add-2.result (rw (to_z-of_z v) at c.add-2.ensures)
-    (sym c.wide-owner.ensures ∙ c.if-owner-x.false) c.if-not-add-2.true
+pub returns-in_default-added : goal.returns-in_default-added
+returns-in_default-added c =
+    let cell : FitsSigned w64 (at c.args.t.now.paid c.place-place.result) = search rules in
+    let amount : FitsSigned w64 c.args.x.amount = search rules in
+    payment_18 _ _ (one_of _ c.requires.kind_is c.if-x-eq0.false) (sym c.from-owner.ensures ∙ c.if-owner-x.false) _ c.place-place.ensures.value _
+    (rw (to_z-of_z cell, to_z-of_z amount) at c.added-else-x-eq0.ensures) c.in_default-added.is
 
 pub returns : goal.returns
 returns c =
-    let v : FitsSigned w64 c.args.x.amount = search rules in
-    let t = tally c.args.claims.now c.args.counts.now c.args.paid.now c.args.last.now in
-    payment_yes t c.args.x (one_of _ c.requires.kind_is c.if-x-eq0.false) c.add-2.new.cells
-    c.add-2.new.last c.add-2.result (rw (to_z-of_z v) at c.add-2.ensures)
-    (sym c.wide-owner.ensures ∙ c.if-owner-x.false) c.if-not-add-2.false
+    let amount : FitsSigned w64 c.args.x.amount = search rules in
+    elim c.if-x-eq0.branch [
+      | then-x-eq0+else-owner-ne0+in-Some w ↦
+          let counted : FitsSigned w64 (at c.args.t.now.counts c.place-place.result) = search rules in
+          let cell : FitsSigned w64 w.in-Some.cell = search rules in
+          rw (w.t-is, to_z-of_z cell)
+          (report _ _ w.if-x-eq0.true (sym c.from-owner.ensures ∙ w.if-owner-ne0.false) _ c.place-place.ensures.value _ (rw (to_z-of_z counted) at w.added.ensures) _ w.in-Some.is)
+      | else-x-eq0+else-owner-x+in-Some-added w ↦
+          let paid : FitsSigned w64 (at c.args.t.now.paid c.place-place.result) = search rules in
+          let cell : FitsSigned w64 w.in-Some-added.cell = search rules in
+          rw (w.t-is, to_z-of_z cell)
+          (payment _ _ (one_of _ c.requires.kind_is w.if-x-eq0.false) (sym c.from-owner.ensures ∙ w.if-owner-x.false) _ c.place-place.ensures.value _
+          (rw (to_z-of_z paid, to_z-of_z amount) at w.added-else-x-eq0.ensures) _ w.in-Some-added.is)
+    ]

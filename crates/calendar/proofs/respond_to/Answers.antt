@@ -1,8 +1,6 @@
 -- `calendar::respond_to` meets its contract: the bytes read are the input, or fill a buffer that is
 -- long enough for an input to be cut there. Assumes nothing.
-use mathlib.Core.Path.{sym}
-use native.Mathlib.Omega.{arith}
-use lib.Seq.{length-take-le}
+use Rattle.std.proofs.Common.{arith}
 use Rattle.calendar.specs.Respond.{read_short, read_full}
 use Rattle.calendar.proofs.respond_to.Goals as goal
 
@@ -13,12 +11,3 @@ returns-then-n-read c =
 pub returns : goal.returns
 returns c =
     read_full c.args.input.now c.args.out.now c.answer-2.new.text c.args.n c.answer-2.result (omega arith) (omega arith) c.answer-2.ensures
-
-pub slice_bounds-answer-end : goal.slice_bounds-answer-end
-slice_bounds-answer-end c = sym (length-take-le _ _ (omega arith))
-
-pub answer-requires : goal.answer-requires
-answer-requires c = omega arith
-
-pub answer-requires-2 : goal.answer-requires-2
-answer-requires-2 c = omega arith

@@ -1,59 +1,29 @@
--- `cells::cell::write_known` meets its contract. The loop's invariant: k zeros are written. Assumes
--- nothing.
-use mathlib.Core.Path.{◌≡◌, sym, ◌∙◌, ap}
-use mathlib.Core.List.{List}
-use Prim.Native.Nat.{ℕ, ◌+◌}
-use native.Mathlib.Omega.{arith}
-use lib.IntN.{ℤ, pos}
-use lib.ListN.{length, set}
+-- `write_known` meets its contract: what is filled holds n zeros. Assumes nothing.
+use Rattle.std.proofs.Common.{◌≡◌, ℕ, ◌+◌, ◌-◌, ◌≤◌, List, ℤ, pos, length, take, drop, replicate, ap, sym, ◌∙◌, arith, append_assoc, drop-drop}
+use Rattle.std.proofs.lemmas.List.{get_or-replicate, length-replicate}
+use Rattle.std.proofs.lemmas.List.Edits.{length-between}
+use borrow.Rule.Slice.PartMut.{put_mid}
 use Rattle.model.specs.Lists.{tabulate}
-use Rattle.model.specs.ListsLaws.{tabulate_last, length_tabulate}
-use Rattle.model.specs.Overlay.{overlay, overlay_none, overlay_store, length_overlay}
-use Rattle.cells.proofs.write_known.Invariants.{zeros}
+use Rattle.model.specs.ListsLaws.{is_tabulate, length_tabulate}
+use Rattle.model.specs.Overlay.{overlay}
 use Rattle.cells.proofs.write_known.Goals as goal
-use Rattle.cells.proofs.write_known.Goals.{At-loop-k}
 
-long : (k : ℕ) → length (zeros k) ≡ k
-long k = length_tabulate k (λ _. pos 0)
+abbrev zeros : ℕ → List ℤ
+zeros n = tabulate n (λ _. pos 0)
 
-same : (l : At-loop-k) → length l.loop-k.out ≡ length l.before.args.out.now
-same l =
-    let a = l.before.args in
-    ap length l.loop-k.invariant.1 ∙ length_overlay a.out.now a.from (zeros l.loop-k.k) (omega (arith, long l.loop-k.k))
+filled : (n : ℕ) → replicate n (pos 0) ≡ zeros n
+filled n = is_tabulate n (λ _. pos 0) (replicate n (pos 0)) (pos 0) (length-replicate n (pos 0)) (λ i u. get_or-replicate n i (pos 0) (pos 0) u)
 
-pub loop-k-init : goal.loop-k-init
-unfolding tabulate
-loop-k-init c = (omega arith, sym (overlay_none c.args.out.now c.args.from))
+part : (d : List ℤ) (a n : ℕ) → a + n ≤ length d → length (take (a + n - a) (drop a d)) ≡ n
+part d a n h = length-between d a (a + n) h ∙ omega arith
 
-pub loop-k-preserved : goal.loop-k-preserved
-loop-k-preserved c =
-    let a = c.before.before.args in
-    let k = c.before.loop-k.k in (
-      omega arith,
-      ap (λ (o : List ℤ). set o (a.from + k) (pos 0)) c.before.loop-k.invariant.1
-          ∙ overlay_store a.out.now a.from (zeros k) (a.from + k) (pos 0) (rw (long k)) (omega arith)
-          ∙ ap (overlay a.out.now a.from) (sym (tabulate_last k (λ _. pos 0))),
-    )
+written : (d f : List ℤ) (a n : ℕ) → f ≡ zeros n → put_mid a (a + n - a) d f ≡ overlay d a (zeros n)
+unfolding overlay
+written d f a n e =
+    let k : a + n - a ≡ n = omega arith in
+    rw (k, e, length_tabulate n (λ _. pos 0), drop-drop n a d) (sym (append_assoc (take a d) (zeros n) (drop (a + n) d)))
 
 pub returns : goal.returns
 returns c =
-    let e : c.before.loop-k.k ≡ c.before.before.args.n = omega arith in
-    rw (sym e) c.before.loop-k.invariant.1
-
-pub overflow_add-out : goal.overflow_add-out
-overflow_add-out c = omega arith
-
-pub offset_bounds-out-from : goal.offset_bounds-out-from
-offset_bounds-out-from c = omega arith
-
-pub slice_set_of-out : goal.slice_set_of-out
-slice_set_of-out c = omega (arith, same c.before)
-
-pub overflow_add-k : goal.overflow_add-k
-overflow_add-k c = omega arith
-
-pub loop-k-smaller : goal.loop-k-smaller
-loop-k-smaller c = omega arith
-
-pub shape_of-out : goal.shape_of-out
-shape_of-out c = same c.before
+    let a = c.args in
+    written a.out.now c.fill.new.self a.from a.n (c.fill.ensures.after (λ y h. h) ∙ ap (λ k. replicate k (pos 0)) (part a.out.now a.from a.n c.requires) ∙ filled a.n)

@@ -4,13 +4,5 @@ use Rattle.chain_ladder.proofs.shares.Goals as goal
 
 pub returns : goal.returns
 returns c =
-    let w = c.before.before.before in
-    let s = w.before.before.before.before.before.before.before in
-    let e = w.shares_into-refusal.ensures in
-    shares_whole s.args.m s.args.file.now e.value c.before.store_line.ensures e.b_after e.n_after e.q_after e.g_after e.u_after
-
-pub shares_into-refusal-requires : goal.shares_into-refusal-requires
-shares_into-refusal-requires c = tt
-
-pub store_line-requires : goal.store_line-requires
-store_line-requires c = tt
+    let e = c.shares_into-answer.ensures in
+    rw c.refusal_number.ensures (shares_whole c.args.m c.args.file.now e.value c.store_line.ensures e.b_after e.n_after e.q_after e.g_after e.u_after)

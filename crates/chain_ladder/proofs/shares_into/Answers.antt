@@ -1,132 +1,96 @@
 -- `shares_into` meets its contract: the reader's questions, and then those of the chain ladder.
 -- Assumes nothing.
-use mathlib.Core.Path.{◌≡◌, refl, sym, ◌∙◌, ap}
-use mathlib.Core.List.{List}
-use Prim.Native.Nat.{ℕ, ◌≤◌}
-use lib.IntN.{ℤ}
+use Rattle.std.proofs.Common.{◌≡◌, List, ℕ, ◌≤◌, ℤ, refl, sym, ap, ◌∙◌}
 use Rattle.model.specs.Records.{set_of}
 use Rattle.model.specs.Questions.{first_no, of_shares}
 use Rattle.model.specs.Calls.{shares_refusal, shares_of, shares_answer}
-use Rattle.model.specs.CallsLaws.{if_refused}
-use Rattle.model.specs.Lent.{triangle_in, lent_set}
+use Rattle.model.specs.Lent.{triangle_in, lent_set, ReadInto}
 use Rattle.model.specs.declared.TriangleSet.{TriangleSet}
 use Rattle.model.specs.declared.SharesAnswer.{SharesAnswer}
 use Rattle.chain_ladder.specs.Accepted.{Accepted, accepted}
+use Rattle.chain_ladder.specs.Developed.{Developed}
 use Rattle.chain_ladder.specs.SharesCall.{shares_first, shares_after, shares_yes, shares_refusal_lem}
-use Rattle.ladder.specs.Ladder.{Ladder}
 use Rattle.chain_ladder.specs.DevelopedLaws.{Shared, shared_set, counts_ready, paid_ready}
 use Rattle.ladder.specs.LadderLaws.{ladder_ready, ladder_shares, ladder_ultimates}
 use Rattle.chain_ladder.specs.Valid.{counts_of, paid_of}
+use Rattle.refusals.specs.RefusalsLaws.{not_accepted, handed_on}
 use Rattle.chain_ladder.proofs.shares_into.Goals as goal
-use Rattle.chain_ladder.proofs.shares_into.Lts as lts
-use Rattle.chain_ladder.proofs.shares_into.Tie as tie
-use Rattle.chain_ladder.proofs.shares_into.Reads as reads
-use Rattle.chain_ladder.proofs.shares_into.Goals.{Start}
-
--- the places, as the steps before a goal know them
-abbrev After-develop-refusal : Type 0
-After-develop-refusal = lts.After-develop tie.the-claims reads.Pre reads.Post tie.handed_clauses
-
-abbrev After-read_cells-refusal : Type 0
-After-read_cells-refusal = lts.After-read_cells tie.the-claims reads.Pre reads.Post tie.handed_clauses
-
-abbrev Else-refusal-ne0 : Type 0
-Else-refusal-ne0 = lts.Else1 tie.the-claims reads.Pre reads.Post tie.handed_clauses
-
-abbrev Else-refusal-ne0-2 : Type 0
-Else-refusal-ne0-2 = lts.Else2 tie.the-claims reads.Pre reads.Post tie.handed_clauses
-
-module _ (c : After-read_cells-refusal) where
-  abbrev start : Start
-  start = c.before.before.before
-
-  abbrev m : ℕ
-  m = start.args.m
-
-  abbrev f : List ℕ
-  f = start.args.file.now
-
-  abbrev lent : List ℤ
-  lent = c.read_cells-refusal.new.set
+use Rattle.chain_ladder.proofs.shares_into.Goals.{In_ok-develop}
 
 -- the file is accepted
-module _ (c : Else-refusal-ne0) where
-  abbrev one : After-read_cells-refusal
-  one = c.before
-
-  read : Accepted (m one) (f one) (lent_set (set_of (m one) (f one)) (lent one))
-  read = accepted (m one) (f one) one.read_cells-refusal.ensures c.if-refusal-ne0.false
-
-module _ (c : After-develop-refusal) where
-  abbrev two : Else-refusal-ne0
-  two = c.before.before.before.before.before.before
+module _ {m : ℕ} {f : List ℕ} {lent : List ℤ} (ok : ReadInto m f 0 lent) where
+  read : Accepted m f (lent_set (set_of m f) lent)
+  read = accepted m f ok refl
 
   -- the questions of the lent set are those of the file's
-  refused_by : shares_refusal (m (one two)) (f (one two)) ≡ c.develop-refusal.result
-  refused_by =
-      shares_after (m (one two)) (f (one two)) (read two).read
-      ∙ ap (λ (s : TriangleSet). first_no (of_shares (m (one two)) s.counts s.paid)) (sym (read two).is)
-      ∙ sym c.develop-refusal.ensures.refusal
+  asked : {n : ℕ} {cl cg dl dg : List ℤ} → Developed m lent n cl cg dl dg → shares_refusal m f ≡ n
+  asked d =
+      shares_after m f read.read
+      ∙ ap (λ (s : TriangleSet). first_no (of_shares m s.counts s.paid)) (sym read.is)
+      ∙ sym d.refusal
 
--- and so is its set
-module _ (c : Else-refusal-ne0-2) where
-  abbrev made : After-develop-refusal
-  made = c.before
+  -- and so is its set
+  module _ {cl cg dl dg : List ℤ} (d : Developed m lent 0 cl cg dl dg) where
+    shared : Shared m (triangle_in 0 lent) (triangle_in 1 lent)
+    shared = shared_set m (lent_set (set_of m f) lent) read.valid (sym d.refusal)
 
-  abbrev base : After-read_cells-refusal
-  base = one (two made)
+    few : m ≤ 20
+    few = shared.counts.small.few
 
-  counts : Ladder (m base) (triangle_in 0 (lent base)) made.develop-refusal.new.count_latest made.develop-refusal.new.count_g
-  counts = made.develop-refusal.ensures.counts c.if-refusal-ne0-2.false
+    answer_is : shares_of m (lent_set (set_of m f) lent) ≡ shares_answer m f
+    answer_is = ap (shares_of m) read.is ∙ sym (shares_yes m f (asked d))
 
-  paid : Ladder (m base) (triangle_in 1 (lent base)) made.develop-refusal.new.paid_latest made.develop-refusal.new.paid_g
-  paid = made.develop-refusal.ensures.paid c.if-refusal-ne0-2.false
+pub returns-in_err-read_cells-clause-value : goal.returns-in_err-read_cells-clause-value
+returns-in_err-read_cells-clause-value c =
+    let e = c.in_err-read_cells.ensures.result in
+    handed_on _ _ c.from_residual.ensures.1 ∙ e ∙ sym (shares_refusal_lem _ _ ∙ shares_first _ _ (λ z. not_accepted _ (e ∙ z)))
 
-  shared : Shared (m base) (triangle_in 0 (lent base)) (triangle_in 1 (lent base))
-  shared =
-      shared_set (m base) (lent_set (set_of (m base) (f base)) (lent base)) (read (two made)).valid
-      (sym made.develop-refusal.ensures.refusal ∙ c.if-refusal-ne0-2.false)
+pub develop-requires-clause-amounts : goal.develop-requires-clause-amounts
+develop-requires-clause-amounts c = let v = (read c.in_ok-read_cells.ensures).valid in (counts_of _ _ v, paid_of _ _ v)
 
-  few : m base ≤ 20
-  few = shared.counts.small.few
+pub returns-in_err-develop-clause-value : goal.returns-in_err-develop-clause-value
+returns-in_err-develop-clause-value c =
+    handed_on _ _ c.from_residual-in_err-develop.ensures.1 ∙ sym (shares_refusal_lem _ _ ∙ asked c.in_ok-read_cells.ensures c.in_err-develop.ensures)
 
-  answer_is : shares_of (m base) (lent_set (set_of (m base) (f base)) (lent base)) ≡ shares_answer (m base) (f base)
-  answer_is = ap (shares_of (m base)) (read (two made)).is ∙ sym (shares_yes (m base) (f base) (refused_by made ∙ c.if-refusal-ne0-2.false))
-
-pub returns-then-refusal-ne0 : goal.returns-then-refusal-ne0
-returns-then-refusal-ne0 c =
-    let o = c.before.if-refusal-ne0.true in
-    let b = c.before.before in
-    let e = b.read_cells-refusal.ensures.result in
-    record { value = e ∙ sym (shares_refusal_lem (m b) (f b) ∙ shares_first (m b) (f b) (λ z. o (e ∙ z))); b_after = sym (if_refused _ _ _ o); n_after = sym (if_refused _ _ _ o); q_after = sym (if_refused _ _ _ o); g_after = sym (if_refused _ _ _ o); u_after = sym (if_refused _ _ _ o) }
-
-pub returns-then-refusal-ne0-2 : goal.returns-then-refusal-ne0-2
-returns-then-refusal-ne0-2 c =
-    let o = c.before.if-refusal-ne0-2.true in
-    let b = one (two c.before.before) in
-    record { value = sym (shares_refusal_lem (m b) (f b) ∙ refused_by c.before.before); b_after = sym (if_refused _ _ _ o); n_after = sym (if_refused _ _ _ o); q_after = sym (if_refused _ _ _ o); g_after = sym (if_refused _ _ _ o); u_after = sym (if_refused _ _ _ o) }
-
-pub returns : goal.returns
-unfolding shares_of
-returns c =
-    let e = c.before.before.before.before.before.before.before.before.before.before.before in
-    let b = base e in
-    let n = c.before.before.before.before.before.before in record { value = sym (shares_refusal_lem (m b) (f b) ∙ refused_by (made e) ∙ e.if-refusal-ne0-2.false); b_after = n.before.before.before.shares_of.ensures ∙ ladder_shares (counts e) (few e) ∙ ap (λ (x : SharesAnswer). x.b) (answer_is e); n_after = n.ultimates.ensures ∙ ladder_ultimates (counts e) (few e) ∙ ap (λ (x : SharesAnswer). x.n) (answer_is e); q_after = c.before.before.before.before.shares_of-2.ensures ∙ ladder_shares (paid e) (few e) ∙ ap (λ (x : SharesAnswer). x.q) (answer_is e); g_after = (paid e).g_is ∙ ap (λ (x : SharesAnswer). x.g) (answer_is e); u_after = c.before.ultimates-2.ensures ∙ ladder_ultimates (paid e) (few e) ∙ ap (λ (x : SharesAnswer). x.u) (answer_is e) }
-
-pub read_cells-refusal-requires : goal.read_cells-refusal-requires
-read_cells-refusal-requires c = refl
-
-pub develop-refusal-requires : goal.develop-refusal-requires
-develop-refusal-requires c = let e = c.before.before.before.before.before.before in let s = lent_set (set_of (m (one e)) (f (one e))) (lent (one e)) in record { amounts = (counts_of (m (one e)) s (read e).valid, paid_of (m (one e)) s (read e).valid); count_latest_value = (refl, refl, refl, refl) }
-
-pub shares_of-requires : goal.shares_of-requires
-shares_of-requires c = (ladder_ready (counts c.before.before) (counts_ready (shared c.before.before))).bounds
+pub shares-requires : goal.shares-requires
+shares-requires c = (ladder_ready (c.in_ok-develop.ensures.counts refl) (counts_ready (shared c.in_ok-read_cells.ensures c.in_ok-develop.ensures))).bounds
 
 pub ultimates-requires : goal.ultimates-requires
-ultimates-requires c = let e = c.before.before.before.before.before in ladder_ready (counts e) (counts_ready (shared e))
+ultimates-requires c = ladder_ready (c.in_ok-develop.ensures.counts refl) (counts_ready (shared c.in_ok-read_cells.ensures c.in_ok-develop.ensures))
 
-pub shares_of-requires-2 : goal.shares_of-requires-2
-shares_of-requires-2 c = let e = c.before.before.before.before.before.before.before in (ladder_ready (paid e) (paid_ready (shared e))).bounds
+pub shares-requires-2 : goal.shares-requires-2
+shares-requires-2 c = (ladder_ready (c.in_ok-develop.ensures.paid refl) (paid_ready (shared c.in_ok-read_cells.ensures c.in_ok-develop.ensures))).bounds
 
 pub ultimates-requires-2 : goal.ultimates-requires-2
-ultimates-requires-2 c = let e = c.before.before.before.before.before.before.before.before.before.before in ladder_ready (paid e) (paid_ready (shared e))
+ultimates-requires-2 c = ladder_ready (c.in_ok-develop.ensures.paid refl) (paid_ready (shared c.in_ok-read_cells.ensures c.in_ok-develop.ensures))
+
+pub returns-clause-value : goal.returns-clause-value
+returns-clause-value c = sym (shares_refusal_lem _ _ ∙ asked c.in_ok-read_cells.ensures c.in_ok-develop.ensures)
+
+pub returns-clause-b_after : goal.returns-clause-b_after
+unfolding shares_of
+returns-clause-b_after c =
+    c.shares.ensures ∙ ladder_shares (c.in_ok-develop.ensures.counts refl) (few c.in_ok-read_cells.ensures c.in_ok-develop.ensures)
+    ∙ ap (λ (x : SharesAnswer). x.b) (answer_is c.in_ok-read_cells.ensures c.in_ok-develop.ensures)
+
+pub returns-clause-n_after : goal.returns-clause-n_after
+unfolding shares_of
+returns-clause-n_after c =
+    c.ultimates.ensures ∙ ladder_ultimates (c.in_ok-develop.ensures.counts refl) (few c.in_ok-read_cells.ensures c.in_ok-develop.ensures)
+    ∙ ap (λ (x : SharesAnswer). x.n) (answer_is c.in_ok-read_cells.ensures c.in_ok-develop.ensures)
+
+pub returns-clause-q_after : goal.returns-clause-q_after
+unfolding shares_of
+returns-clause-q_after c =
+    c.shares-2.ensures ∙ ladder_shares (c.in_ok-develop.ensures.paid refl) (few c.in_ok-read_cells.ensures c.in_ok-develop.ensures)
+    ∙ ap (λ (x : SharesAnswer). x.q) (answer_is c.in_ok-read_cells.ensures c.in_ok-develop.ensures)
+
+pub returns-clause-g_after : goal.returns-clause-g_after
+unfolding shares_of
+returns-clause-g_after c = (c.in_ok-develop.ensures.paid refl).g_is ∙ ap (λ (x : SharesAnswer). x.g) (answer_is c.in_ok-read_cells.ensures c.in_ok-develop.ensures)
+
+pub returns-clause-u_after : goal.returns-clause-u_after
+unfolding shares_of
+returns-clause-u_after c =
+    c.ultimates-2.ensures ∙ ladder_ultimates (c.in_ok-develop.ensures.paid refl) (few c.in_ok-read_cells.ensures c.in_ok-develop.ensures)
+    ∙ ap (λ (x : SharesAnswer). x.u) (answer_is c.in_ok-read_cells.ensures c.in_ok-develop.ensures)

@@ -1,131 +1,90 @@
 -- `claim_costs_of_set` meets its contract: the questions of the shares, and then the quotients.
 -- Assumes nothing.
-use mathlib.Core.Path.{◌≡◌, refl, sym, ◌∙◌, ap, subst}
-use mathlib.Core.List.{List}
-use Prim.Native.Nat.{ℕ, ◌≤◌}
-use native.Mathlib.Omega.{arith}
-use lib.Dec.{T}
-use lib.Ieee.{Float}
-use lib.Ieee.Positive.{positive}
+use Rattle.std.proofs.Common.{◌≡◌, refl, sym, ◌∙◌, ap, subst, List, ℕ, ◌^◌, ◌≤◌, arith, T, ℤ, pos, Float}
+use Rattle.std.specs.Float.Ieee.Positive.{positive}
+use Rattle.model.specs.Lists.{at, listed}
 use Rattle.model.specs.Shares as Shares
-use Rattle.model.specs.ClaimCosts.{mean_cost, claim_costs}
+use Rattle.model.specs.ClaimCosts.{quotient, no_float, mean_cost, claim_costs}
 use Rattle.model.specs.Calls.{no_set}
-use Rattle.model.specs.Lent.{lent_set}
+use Rattle.model.specs.Lent.{lent_set, triangle_in}
 use Rattle.model.specs.declared.TriangleSet.{TriangleSet}
-use Rattle.chain_ladder.specs.DevelopedLaws.{Shared, counts_ready, paid_ready}
+use Rattle.ladder.specs.Ladder.{Ready, grown}
 use Rattle.ladder.specs.LadderLaws.{ladder_ready, ladder_ultimates}
-use Rattle.claim_costs.specs.Costs.{mean_costs, cost_at}
+use Rattle.chain_ladder.specs.Valid.{Amounts}
+use Rattle.chain_ladder.specs.Developed.{Developed}
+use Rattle.chain_ladder.specs.DevelopedLaws.{Shared, counts_ready, paid_ready}
+use Rattle.refusals.specs.RefusalsLaws.{not_accepted}
+use Rattle.claim_costs.specs.Costs.{mean_costs, cost_at, AllExact}
 use Rattle.claim_costs.specs.CostsLaws.{mu_positive, costs_exact, factors_exact, costs_are, factors_are, at_mean_costs, inflations_are, set_no, set_yes}
 use Rattle.claim_costs.proofs.claim_costs_of_set.Goals as goal
-use Rattle.claim_costs.proofs.claim_costs_of_set.Lts as lts
-use Rattle.claim_costs.proofs.claim_costs_of_set.Tie as tie
-use Rattle.claim_costs.proofs.claim_costs_of_set.Reads as reads
-use Rattle.claim_costs.proofs.claim_costs_of_set.Goals.{After-quotients-costs, After-ultimates-u, Start}
 
--- the places, as the steps before a goal know them
-abbrev After-develop-refusal : Type 0
-After-develop-refusal = lts.After-develop tie.the-claims reads.Pre reads.Post tie.handed_clauses
-
-abbrev After-sums : Type 0
-After-sums = lts.After-sums tie.the-claims reads.Pre reads.Post tie.handed_clauses
-
-abbrev Else-refusal-ne0 : Type 0
-Else-refusal-ne0 = lts.Else1 tie.the-claims reads.Pre reads.Post tie.handed_clauses
-
-module _ (c : After-develop-refusal) where
-  abbrev start : Start
-  start = c.before.before.before.before.before
-
-  abbrev m : ℕ
-  m = start.args.m
-
-  abbrev s : TriangleSet → TriangleSet
-  s like = lent_set like start.args.set.now
+-- a set that is accepted
+module _ {m : ℕ} {set cl cg dl dg : List ℤ} (a : Amounts m (10 ^ 7) (triangle_in 0 set) × Amounts m (10 ^ 10) (triangle_in 1 set)) (d : Developed m set 0 cl cg dl dg) where
+  passed : Shared m (triangle_in 0 set) (triangle_in 1 set)
+  passed = record { counts = a.0; paid = a.1; asked = sym d.refusal }
 
   least_size : 1 ≤ m
-  least_size = let l = start.requires.0.least in omega arith
+  least_size = let l = a.0.least in omega arith
 
   most_size : m ≤ 20
-  most_size = start.requires.0.small.few
+  most_size = a.0.small.few
 
--- the set is accepted
-module _ (c : Else-refusal-ne0) where
-  abbrev one : After-develop-refusal
-  one = c.before
+  counts_made : Ready m cl cg
+  counts_made = ladder_ready (d.counts refl) (counts_ready passed)
 
-  shared : Shared (m one) (s one no_set).counts (s one no_set).paid
-  shared = record { counts = (start one).requires.0; paid = (start one).requires.1; asked = sym one.develop-refusal.ensures.refusal ∙ c.if-refusal-ne0.false }
+  paid_made : Ready m dl dg
+  paid_made = ladder_ready (d.paid refl) (paid_ready passed)
 
-module _ (c : After-ultimates-u) where
-  abbrev else1 : Else-refusal-ne0
-  else1 = c.before.before.before.before.before.before
+  -- its ultimates
+  n_is : {n : List ℤ} → n ≡ listed 20 m (grown m cl cg) (pos 0) → n ≡ Shares.ultimates m (triangle_in 0 set)
+  n_is e = e ∙ ladder_ultimates (d.counts refl) most_size
 
-  abbrev base : After-develop-refusal
-  base = one else1
+  u_is : {u : List ℤ} → u ≡ listed 20 m (grown m dl dg) (pos 0) → u ≡ Shares.ultimates m (triangle_in 1 set)
+  u_is e = e ∙ ladder_ultimates (d.paid refl) most_size
 
-  n_is : c.before.before.before.ultimates-n.result ≡ Shares.ultimates (m base) (s base no_set).counts
-  n_is = c.before.before.before.ultimates-n.ensures ∙ ladder_ultimates (base.develop-refusal.ensures.counts else1.if-refusal-ne0.false) (most_size base)
+  -- its mean costs, and mu
+  module _ {n u : List ℤ} (n_made : n ≡ listed 20 m (grown m cl cg) (pos 0)) (u_made : u ≡ listed 20 m (grown m dl dg) (pos 0)) where
+    exact : AllExact m u n
+    exact = costs_exact passed (u_is u_made) (n_is n_made)
 
-  u_is : c.ultimates-u.result ≡ Shares.ultimates (m base) (s base no_set).paid
-  u_is = c.ultimates-u.ensures ∙ ladder_ultimates (base.develop-refusal.ensures.paid else1.if-refusal-ne0.false) (most_size base)
+    module _ {costs : List Float} (made : costs ≡ listed 20 m (λ k. quotient (at u k) (at n k)) no_float) where
+      costs_is : (like : TriangleSet) → costs ≡ mean_costs m (lent_set like set)
+      costs_is like = made ∙ costs_are m (lent_set like set) most_size (u_is u_made) (n_is n_made)
 
--- the mean costs, and mu
-module _ (c : After-quotients-costs) where
-  abbrev two : After-ultimates-u
-  two = c.before.before.before
+      mu_is : (like : TriangleSet) → cost_at costs 0 ≡ mean_cost m (lent_set like set) 1
+      mu_is like = ap (λ (l : List Float). cost_at l 0) (costs_is like) ∙ at_mean_costs m (lent_set like set) most_size 0 least_size
 
-  abbrev made : After-develop-refusal
-  made = base two
+      mu_above : T (positive (cost_at costs 0))
+      mu_above = subst (λ (x : Float). T (positive x)) (sym (mu_is no_set)) (mu_positive m (lent_set no_set set) passed)
 
-  costs_is : (like : TriangleSet) → c.quotients-costs.result ≡ mean_costs (m made) (s made like)
-  costs_is like = c.quotients-costs.ensures ∙ costs_are (m made) (s made like) (most_size made) (u_is two) (n_is two)
+pub returns-in-Err : goal.returns-in-Err
+returns-in-Err c like _ =
+    rw (c.refused.ensures, c.from.ensures) (sym (set_no c.args.m (lent_set like c.args.set.now) _ (sym c.in-Err.ensures.refusal) (not_accepted c.in-Err.refusal)))
 
-  mu_is : (like : TriangleSet) → cost_at c.quotients-costs.result 0 ≡ mean_cost (m made) (s made like) 1
-  mu_is like = ap (λ (l : List Float). cost_at l 0) (costs_is like) ∙ at_mean_costs (m made) (s made like) (most_size made) 0 (least_size made)
+pub ultimates-n-requires : goal.ultimates-n-requires
+ultimates-n-requires c = counts_made c.requires c.in_default.ensures
 
-  mu_above : T (positive (cost_at c.quotients-costs.result 0))
-  mu_above = subst (λ (x : Float). T (positive x)) (sym (mu_is no_set)) (mu_positive (m made) (s made no_set) (shared (else1 two)))
+pub ultimates-u-requires : goal.ultimates-u-requires
+ultimates-u-requires c = paid_made c.requires c.in_default.ensures
 
-module _ (c : After-sums) where
-  abbrev three : After-quotients-costs
-  three = c.before.before.before.before
+pub quotients-costs-requires : goal.quotients-costs-requires
+quotients-costs-requires c = exact c.requires c.in_default.ensures c.ultimates-n.ensures c.ultimates-u.ensures
 
-pub returns-then-refusal-ne0 : goal.returns-then-refusal-ne0
-returns-then-refusal-ne0 c like _ =
-    let b = c.before.before in
-    c.refused.ensures ∙ sym (set_no (m b) (s b like) _ (sym b.develop-refusal.ensures.refusal) c.before.if-refusal-ne0.true)
+pub quotients-factors-requires : goal.quotients-factors-requires
+quotients-factors-requires c = factors_exact (passed c.requires c.in_default.ensures) c.sums.ensures.b_after c.sums.ensures.a_after
+
+pub inflations-requires : goal.inflations-requires
+inflations-requires c =
+    (most_size c.requires c.in_default.ensures, mu_above c.requires c.in_default.ensures c.ultimates-n.ensures c.ultimates-u.ensures c.quotients-costs.ensures)
 
 pub returns : goal.returns
 unfolding claim_costs
 returns c like line =
-    let f = c.before.before.before in
-    let w = f.before.before.before in
-    let q = three w in
-    let b = made q in
-    set_yes (m b) (s b like) (shared (else1 (two q))).asked line (mu_is q like)
-    (f.quotients-factors.ensures ∙ factors_are (m b) (s b like) (most_size b) w.sums.ensures.b_after w.sums.ensures.a_after)
-    (c.inflations.ensures ∙ inflations_are (m b) (s b like) (most_size b) (least_size b) (u_is (two q)) (costs_is q like))
-
-pub develop-refusal-requires : goal.develop-refusal-requires
-develop-refusal-requires c = let p = c.before.before.before.before.requires in record { amounts = p; count_latest_value = (refl, refl, refl, refl) }
-
-pub ultimates-n-requires : goal.ultimates-n-requires
-ultimates-n-requires c = let e = c.before.before.before in ladder_ready ((one e).develop-refusal.ensures.counts e.if-refusal-ne0.false) (counts_ready (shared e))
-
-pub ultimates-u-requires : goal.ultimates-u-requires
-ultimates-u-requires c = let e = c.before.before.before.before.before in ladder_ready ((one e).develop-refusal.ensures.paid e.if-refusal-ne0.false) (paid_ready (shared e))
-
-pub quotients-costs-requires : goal.quotients-costs-requires
-quotients-costs-requires c = let t = c.before.before in costs_exact (shared (else1 t)) (u_is t) (n_is t)
-
-pub sums-requires : goal.sums-requires
-sums-requires c = let b = made c.before.before.before in record { kind_bound = (omega arith, (start b).requires.1.small); latest_value = (refl, refl, refl) }
-
-pub overflow_sub-m : goal.overflow_sub-m
-overflow_sub-m c = least_size (made (three c.before.before))
-
-pub quotients-factors-requires : goal.quotients-factors-requires
-quotients-factors-requires c = let w = c.before.before in factors_exact (shared (else1 (two (three w)))) w.sums.ensures.b_after w.sums.ensures.a_after
-
-pub inflations-requires : goal.inflations-requires
-inflations-requires c = let q = three c.before.before.before.before.before in (most_size (made q), mu_above q)
+    let s = lent_set like c.args.set.now in
+    let d = c.in_default.ensures in
+    let few = most_size c.requires d in
+    let n = c.ultimates-n.ensures in
+    let u = c.ultimates-u.ensures in
+    set_yes c.args.m s (passed c.requires d).asked line (mu_is c.requires d n u c.quotients-costs.ensures like)
+    (c.quotients-factors.ensures ∙ factors_are c.args.m s few c.sums.ensures.b_after c.sums.ensures.a_after)
+    (c.inflations.ensures ∙ inflations_are c.args.m s few (least_size c.requires d) (u_is c.requires d u) (costs_is c.requires d n u c.quotients-costs.ensures like))

@@ -1,11 +1,5 @@
 -- `inflation` meets its contract, by its two tests. Assumes nothing.
-use mathlib.Core.Path.{◌≡◌, refl, sym, ◌∙◌, ap}
-use mathlib.Core.Bool.{true, false}
-use borrow.Author.Tests.{ne_eqb}
-use lib.IntN.{ℤ, pos, negsuc}
-use mir.Syntax.{w64}
-use mir.Val.{SFits, to_z, of_z}
-use mir.Facts.{to_z-of_z}
+use Rattle.std.proofs.Common.{◌≡◌, refl, sym, ◌∙◌, ap, true, false, ne_eqb, ℤ, pos, negsuc, w64, SFits, to_z, of_z, to_z-of_z}
 use Rattle.model.specs.RowBases.{is_zero}
 use Rattle.claim_costs.specs.Costs.{inflation_of}
 use Rattle.claim_costs.proofs.inflation.Goals as goal
@@ -24,8 +18,8 @@ returns-then-i-eq1 c = rw c.if-i-eq1.true
 
 pub returns-then-ultimate-eq0 : goal.returns-then-ultimate-eq0
 unfolding inflation_of
-returns-then-ultimate-eq0 c = rw (ne_eqb _ 1 c.before.if-i-eq1.false, zero_yes c.before.before.ranges.ultimate c.if-ultimate-eq0.true)
+returns-then-ultimate-eq0 c = rw (ne_eqb _ 1 c.if-i-eq1.false, zero_yes c.ranges.ultimate c.if-ultimate-eq0.true)
 
 pub returns : goal.returns
 unfolding inflation_of
-returns c = rw (ne_eqb _ 1 c.before.if-i-eq1.false, zero_no c.before.before.args.ultimate c.if-ultimate-eq0.false)
+returns c = rw (ne_eqb _ 1 c.if-i-eq1.false, zero_no c.args.ultimate c.if-ultimate-eq0.false)

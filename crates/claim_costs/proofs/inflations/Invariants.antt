@@ -1,8 +1,5 @@
-use mathlib.Core.Path.{◌≡◌}
-use mathlib.Core.List.{List}
-use Prim.Native.Nat.{ℕ, suc, ◌-◌, ◌≤◌}
-use lib.IntN.{ℤ}
-use lib.Ieee.{Float}
+-- The years so far are made.
+use Rattle.std.proofs.Common.{◌≡◌, List, ℕ, suc, ℤ, Float}
 use Rattle.model.specs.Lists.{at, listed}
 use Rattle.model.specs.ClaimCosts.{year_inflation}
 use Rattle.model.specs.declared.YearInflation.{YearInflation}
@@ -14,7 +11,4 @@ abbrev pub entry : List ℤ → List Float → Float → ℕ → YearInflation
 entry ultimates costs mu k = year_inflation (inflation_of (suc k) (at ultimates k) (cost_at costs k) mu)
 
 abbrev pub invariant-loop-k : goal.invariant-loop-k
-invariant-loop-k l = (l.k ≤ l.m) × (l.out ≡ listed 20 l.k (entry l.ultimates l.costs l.mu) (year_inflation NoPaymentsYet))
-
-abbrev pub decreases-loop-k : goal.decreases-loop-k
-decreases-loop-k l = l.m - l.k
+invariant-loop-k l = l.out ≡ listed 20 l.k (entry l.ultimates l.costs l.mu) (year_inflation NoPaymentsYet)

@@ -1,6 +1,6 @@
 -- `refused` meets its contract. Assumes nothing.
-use mathlib.Core.Path.{refl}
-use lib.Ieee.{of_bits}
+use Rattle.std.proofs.Common.{refl}
+use Rattle.std.specs.Float.Ieee.{of_bits}
 use Rattle.model.specs.ClaimCosts.{no_claim_costs}
 use Rattle.claim_costs.proofs.refused.Goals as goal
 

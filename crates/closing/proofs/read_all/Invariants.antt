@@ -1,9 +1,6 @@
--- What was read lies within the buffer, whose length stays.
-use Rattle.std.proofs.Common.{length, ◌≡◌, ◌≤◌}
+-- What was read lies within the buffer.
+use Rattle.std.proofs.Common.{length, ◌≤◌}
 use Rattle.closing.proofs.read_all.Given as goal
 
-abbrev pub invariant-loop-done : goal.invariant-loop-done
-invariant-loop-done g l = (l.done ≤ length l.buf) × (length l.buf ≡ length l.fn.buf)
-
-abbrev pub decreases-loop-done : goal.decreases-loop-done
-decreases-loop-done g l = l.calls
+abbrev pub invariant-loop : goal.invariant-loop
+invariant-loop g l = l.done ≤ length l.buf

@@ -2,8 +2,5 @@
 use Rattle.std.proofs.Common.{length, ◌≤◌}
 use Rattle.closing.proofs.write_whole.Given as goal
 
-abbrev pub invariant-loop-sent : goal.invariant-loop-sent
-invariant-loop-sent g l = l.sent ≤ length l.text
-
-abbrev pub decreases-loop-sent : goal.decreases-loop-sent
-decreases-loop-sent g l = l.calls
+abbrev pub invariant-loop : goal.invariant-loop
+invariant-loop g l = l.sent ≤ length l.text

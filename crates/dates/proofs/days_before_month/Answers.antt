@@ -1,66 +1,49 @@
--- `dates::days_before_month` meets its contract: the sum so far is that of a common year before
--- month k. Assumes nothing.
-use mathlib.Core.Path.{◌≡◌, sym, ◌∙◌}
-use mathlib.Core.Bool.{false}
-use Prim.Native.Nat.{◌+◌, ◌≤◌}
-use native.Mathlib.Omega.{arith}
-use Rattle.model.specs.Dates.{month_days, days_before_month}
-use Rattle.dates.specs.DatesLaws.{month_none, month_more, months_few, common_month, before_march, from_march}
+-- `dates::days_before_month` meets its contract: the table's sum before a month is that of a common
+-- year. Assumes nothing.
+use Rattle.std.proofs.Common.{◌≡◌, true, ◌≤◌, ◌-◌, ℕ, Bool, false, eqb, refl, take, arith, ◌∙◌, sym, ⊎_elim}
+use Rattle.std.proofs.lemmas.Iterator.{YieldsList-from_slice}
+use Rattle.std.proofs.lemmas.Iterator.Consumers.{sum_from_yields_List, fits_from_yields_list}
+use Rattle.std.specs.List.{sum}
+use Rattle.model.specs.Lists.{total, every}
+use Rattle.model.specs.ListsLaws.{every_at}
+use borrow.Author.Tests.{eqb-true}
+use Rattle.model.specs.Dates.{month_days, month_length, days_before_month}
+use Rattle.dates.specs.DatesLaws.{months_few, before_march, from_march}
 use Rattle.dates.proofs.days_before_month.Goals as goal
-use Rattle.dates.proofs.days_before_month.Goals.{After-loop-k}
+use Rattle.dates.proofs.days_before_month.Goals.{After-sum-common}
 
-pub loop-k-init : goal.loop-k-init
-loop-k-init c = (omega arith, sym (month_none _))
+-- computed for each month
+sum_rule : ℕ → Bool
+sum_rule m = eqb (sum (take (m - 1) month_days)) (days_before_month false m)
 
-pub overflow_add-days : goal.overflow_add-days
+sum_rules : every 13 sum_rule ≡ true
+unfolding every sum_rule days_before_month month_length month_days total
+sum_rules = refl
+
+table_sum : (m : ℕ) → m ≤ 12 → sum (take (m - 1) month_days) ≡ days_before_month false m
+unfolding sum_rule
+table_sum m h = eqb-true _ _ (every_at sum_rule 13 m sum_rules (omega arith))
+
+pub sum-common-requires-clause-fits : goal.sum-common-requires-clause-fits
 unfolding month_days
-overflow_add-days c =
-    let k = c.before.loop-k.k in
-    let h = c.before.loop-k.invariant.0.0 in
-    let e : k + 1 ≤ 13 = omega arith in
-    omega (arith, c.before.loop-k.invariant.1, month_more false k h, common_month k h, months_few false (k + 1) e)
+sum-common-requires-clause-fits c =
+    let m = c.args.month in
+    fits_from_yields_list c.iter.result _ (YieldsList-from_slice (take (m - 1) month_days) cc)
+    (omega (arith, table_sum m c.requires.1, months_few false m (omega arith)))
 
-pub loop-k-preserved : goal.loop-k-preserved
+-- what the code adds up
+common_is : (c : After-sum-common) → c.sum-common.result ≡ days_before_month false c.args.month
 unfolding month_days
-loop-k-preserved c =
-    let k = c.before.loop-k.k in
-    let h = c.before.loop-k.invariant.0.0 in
-    (omega arith, omega (arith, c.before.loop-k.invariant.1, month_more false k h, common_month k h))
-
--- after the loop the sum is that of a common year
-common : (c : After-loop-k) → c.before.loop-k.days ≡ days_before_month false c.before.before.args.month
-common c =
-    let e : c.before.loop-k.k ≡ c.before.before.args.month = omega arith in
-    rw e at c.before.loop-k.invariant.1
-
-pub returns-then-month-lt3 : goal.returns-then-month-lt3
-returns-then-month-lt3 c = common c.before ∙ sym (before_march _ _ c.if-month-lt3.true)
+common_is c =
+    sum_from_yields_List c.iter.result _ c.sum-common.ensures.ran (YieldsList-from_slice (take (c.args.month - 1) month_days) cc)
+    ∙ table_sum c.args.month c.requires.1
 
 pub overflow_add-result : goal.overflow_add-result
-overflow_add-result c =
-    let a = c.before.before in
-    let e : a.before.before.args.month ≤ 13 = omega arith in
-    omega (arith, common a, months_few false a.before.before.args.month e)
+overflow_add-result c = omega (arith, common_is c.before.before, months_few false c.args.month (omega arith))
 
-pub returns-then-leap : goal.returns-then-leap
-returns-then-leap c =
-    let a = c.before.before in
-    rw c.if-leap.true (omega (arith, common a, from_march a.before.before.args.month c.before.if-month-lt3.false a.before.before.requires.1))
+pub returns-then-month-ge3 : goal.returns-then-month-ge3
+returns-then-month-ge3 c = rw c.if-leap.true (omega (arith, common_is c.before.before, from_march c.args.month c.if-month-ge3.true c.requires.1))
 
-pub returns : goal.returns
-returns c = rw c.if-leap.false (common c.before.before)
-
-pub overflow_sub-at : goal.overflow_sub-at
-overflow_sub-at c = omega arith
-
-pub offset_bounds-lengths-at : goal.offset_bounds-lengths-at
-offset_bounds-lengths-at c = omega arith
-
-pub bounds-lengths-at : goal.bounds-lengths-at
-bounds-lengths-at c = omega arith
-
-pub overflow_add-k : goal.overflow_add-k
-overflow_add-k c = omega arith
-
-pub loop-k-smaller : goal.loop-k-smaller
-loop-k-smaller c = omega arith
+pub returns-else-leap : goal.returns-else-leap
+returns-else-leap c =
+    ⊎_elim (λ h. common_is c.before ∙ sym (before_march c.args.leap c.args.month h.1)) (λ h. rw h (common_is c.before)) c.else-leap.either

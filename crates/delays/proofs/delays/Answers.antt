@@ -4,12 +4,5 @@ use Rattle.delays.proofs.delays.Goals as goal
 
 pub returns : goal.returns
 returns c =
-    let w = c.before.before.before in
-    let s = w.before.before.before in
-    delays_whole s.args.m s.args.file.now w.delays_into-refusal.ensures.value c.before.store_line.ensures w.delays_into-refusal.ensures.p_after
-
-pub delays_into-refusal-requires : goal.delays_into-refusal-requires
-delays_into-refusal-requires c = tt
-
-pub store_line-requires : goal.store_line-requires
-store_line-requires c = tt
+    let e = c.delays_into-answer.ensures in
+    rw c.refusal_number.ensures (delays_whole c.args.m c.args.file.now e.value c.store_line.ensures e.p_after)

@@ -1,70 +1,30 @@
 -- `file_delays` meets its contract: the reader's questions, and then those of the set. Assumes
 -- nothing.
-use mathlib.Core.Path.{refl, sym, ◌∙◌, ap}
-use mathlib.Core.List.{List}
-use Prim.Native.Nat.{ℕ}
-use Rattle.model.specs.Records.{set_of}
+use Rattle.std.proofs.Common.{refl, sym, ◌∙◌, ap}
+use Rattle.std.specs.Option.{option_copied}
 use Rattle.model.specs.Calls.{if_accepted}
-use Rattle.model.specs.Lent.{lent_set}
 use Rattle.model.specs.declared.TriangleSet.{TriangleSet}
-use Rattle.chain_ladder.specs.Accepted.{Accepted, accepted}
+use Rattle.refusals.specs.Refusals.{refusal_number}
+use Rattle.refusals.specs.RefusalsLaws.{not_accepted, handed_on}
+use Rattle.chain_ladder.specs.Accepted.{accepted}
 use Rattle.chain_ladder.specs.Valid.{counts_of, paid_of}
 use Rattle.delays.specs.Prepared.{delays_from, refusal_from}
 use Rattle.delays.specs.PreparedLaws.{unread, from_pair}
 use Rattle.delays.proofs.file_delays.Goals as goal
-use Rattle.delays.proofs.file_delays.Lts as lts
-use Rattle.delays.proofs.file_delays.Tie as tie
-use Rattle.delays.proofs.file_delays.Reads as reads
-use Rattle.delays.proofs.file_delays.Goals.{Start}
 
--- the places, as the steps before a goal know them
-abbrev After-read_cells-refusal : Type 0
-After-read_cells-refusal = lts.After-read_cells tie.the-claims reads.Pre reads.Post tie.handed_clauses
+pub returns-in_err-read_cells : goal.returns-in_err-read_cells
+returns-in_err-read_cells c = rw (handed_on _ _ c.from_residual.ensures.1) (unread _ _ _ _ c.in_err-read_cells.ensures.result (not_accepted _))
 
-abbrev Else-refusal-ne0 : Type 0
-Else-refusal-ne0 = lts.Else1 tie.the-claims reads.Pre reads.Post tie.handed_clauses
-
-module _ (c : After-read_cells-refusal) where
-  abbrev start : Start
-  start = c.before.before.before
-
-  abbrev m : ℕ
-  m = start.args.m
-
-  abbrev f : List ℕ
-  f = start.args.file.now
-
-  abbrev set : TriangleSet
-  set = lent_set (set_of m f) c.read_cells-refusal.new.set
-
-read : (c : Else-refusal-ne0) → Accepted (m c.before) (f c.before) (set c.before)
-read c = accepted (m c.before) (f c.before) c.before.read_cells-refusal.ensures c.if-refusal-ne0.false
-
-pub returns-then-refusal-ne0 : goal.returns-then-refusal-ne0
-returns-then-refusal-ne0 c =
-    let b = c.before.before in
-    unread (m b) (f b) (start b).args.given (start b).args.lent.now (start b).args.p.now b.read_cells-refusal.ensures.result c.before.if-refusal-ne0.true
-
-pub prepare_from-requires : goal.prepare_from-requires
-prepare_from-requires c =
-    let e = c.before.before.before.before.before.before.before in
-    let v = (read e).valid in
-    record { amounts = (counts_of (m e.before) (set e.before) v, paid_of (m e.before) (set e.before) v); count_latest_value = (refl, refl, refl, refl) }
+pub prepare_from-requires-clause-amounts : goal.prepare_from-requires-clause-amounts
+prepare_from-requires-clause-amounts c = let v = (accepted _ _ c.in_ok-read_cells.ensures refl).valid in (counts_of _ _ v, paid_of _ _ v)
 
 pub returns : goal.returns
 returns c =
-    let e = c.before.before.before.before.before.before.before.before in
-    let b = e.before in
-    let a = (start b).args in
-    let is = (read e).is in
+    let m = c.args.m in
+    let given = option_copied c.args.given in
+    let file = accepted _ _ c.in_ok-read_cells.ensures refl in
+    let e = c.prepare_from.ensures in
     record {
-      refusal =
-          c.before.prepare_from.ensures.refusal ∙ ap (λ (s : TriangleSet). refusal_from (m b) s.counts s.paid a.given a.lent.now) is
-          ∙ sym (from_pair (m b) (f b) a.given a.lent.now (read e).read);
-      delays_are =
-          c.before.prepare_from.ensures.delays_are
-          ∙ ap (λ (s : TriangleSet). if_accepted c.before.prepare_from.result (delays_from (m b) s.counts s.paid a.given a.lent.now) a.p.now) is;
+      refusal = e.refusal ∙ ap (λ (s : TriangleSet). refusal_from m s.counts s.paid given) file.is ∙ sym (from_pair m c.args.file.now given file.read);
+      delays_are = e.delays_are ∙ ap (λ (s : TriangleSet). if_accepted (refusal_number c.prepare_from.result) (delays_from m s.counts s.paid given) c.args.p.now) file.is;
     }
-
-pub read_cells-refusal-requires : goal.read_cells-refusal-requires
-read_cells-refusal-requires c = refl

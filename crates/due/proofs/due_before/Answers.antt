@@ -1,20 +1,15 @@
--- `cash::due_before` meets its contract: the date's forecast year, the days of it, and one rounding
+-- `due::due_before` meets its contract: the date's forecast year, the days of it, and one rounding
 -- of all. Assumes nothing.
-use mathlib.Core.Path.{◌≡◌, sym, ◌∙◌, ap₂}
-use mathlib.Core.Bool.{true}
-use Prim.Native.Nat.{ℕ, ◌-◌, ◌*◌, ◌^◌, ◌≤◌, ◌<◌}
-use native.Mathlib.Omega.{arith}
+use Rattle.std.proofs.Common.{◌≡◌, sym, ◌∙◌, ap₂, true, ℕ, ◌-◌, ◌*◌, ◌^◌, ◌≤◌, ◌<◌, ℤ, pos, nat_abs, to_z, of_z, arith}
+use Rattle.std.specs.Int.{w64}
+use Rattle.std.proofs.lemmas.Int.{to_z-of_z}
 use borrow.Author.Rules.{sfits_of}
-use lib.IntN.{ℤ, pos, nat_abs}
-use mir.Syntax.{w64}
-use mir.Val.{to_z, of_z}
-use mir.Facts.{to_z-of_z, to_z_pos}
+use Rattle.std.proofs.Math.Facts.{to_z_pos}
 use Rattle.integers.specs.Parts.{◌⋖◌}
 use Rattle.model.specs.Dates.{is_date, day_number}
 use Rattle.model.specs.Cash.{year_start, full_years, year_total, due_in_year}
 use Rattle.model.specs.declared.Date.{Date}
 use Rattle.year_tally.specs.declared.Tally.{Tally}
-use Rattle.tally.specs.YearSums.{tally_in}
 use Rattle.forecast_years.specs.YearsLaws.{InYear, valued, year_within, years_within}
 use Rattle.due.specs.DueLaws.{days, some_days, days_above, full_small, year_small, due_is, due_small}
 use Rattle.due.proofs.due_before.Goals as goal
@@ -28,7 +23,7 @@ module _ (c : Start) where
   date = c.args.date
 
   abbrev t : Tally
-  t = tally_in c.args.rbns.now c.args.ibnr.now
+  t = c.args.tally.now
 
   is_date_lem : is_date v ≡ true
   is_date_lem = (valued v c.requires.valuation_value.0).date
@@ -48,7 +43,7 @@ module _ (c : After-forecast_year-year) where
   day = day_number (date start)
 
   in_year_lem : InYear (v start) k day
-  in_year_lem = rw c.before.day_number-day.ensures at c.forecast_year-year.ensures.in_year_lem
+  in_year_lem = rw c.day_number-day.ensures at c.forecast_year-year.ensures.in_year_lem
 
   few : k ≤ 38
   few = years_within (v start) (is_date_lem start) 38 k day in_year_lem start.requires.valuation_bound.1
@@ -57,13 +52,13 @@ module _ (c : After-forecast_year-year) where
   made_days = c.forecast_year-year.result.next - c.forecast_year-year.result.start
 
   abbrev made_passed : ℕ
-  made_passed = c.before.day_number-day.result - c.forecast_year-year.result.start
+  made_passed = c.day_number-day.result - c.forecast_year-year.result.start
 
   days_are : made_days ≡ days (v start) (is_date_lem start) k
   days_are = ap₂ ◌-◌ c.forecast_year-year.ensures.ends c.forecast_year-year.ensures.starts
 
   passed_are : made_passed ≡ day - year_start (v start) k
-  passed_are = ap₂ ◌-◌ c.before.day_number-day.ensures c.forecast_year-year.ensures.starts
+  passed_are = ap₂ ◌-◌ c.day_number-day.ensures c.forecast_year-year.ensures.starts
 
   days_most : made_days ≤ 366
   days_most = omega (arith, days_are, (some_days (v start) (is_date_lem start) k).1)
@@ -82,11 +77,11 @@ module _ (c : After-year_total-total) where
   abbrev year : After-forecast_year-year
   year = c.before.before.before.before
 
-  full_is : to_z w64 (of_z w64 c.before.full_years-full.result) ≡ full_years (t (start year)) (k year)
-  full_is = to_z-of_z {w = w64} (sfits_of c.before.full_years-full.type_inv) ∙ c.before.full_years-full.ensures
+  full_is : to_z w64 (of_z w64 c.full_years-full.result) ≡ full_years (t (start year)) (k year)
+  full_is = to_z-of_z w64 _ (sfits_of c.full_years-full.type_inv) ∙ c.full_years-full.ensures
 
   total_is : to_z w64 (of_z w64 c.year_total-total.result) ≡ year_total (t (start year)) (k year)
-  total_is = to_z-of_z {w = w64} (sfits_of c.year_total-total.type_inv) ∙ c.year_total-total.ensures
+  total_is = to_z-of_z w64 _ (sfits_of c.year_total-total.type_inv) ∙ c.year_total-total.ensures
 
 -- what `round_share` asks, of these four numbers
 small : (y : After-forecast_year-year) {whole part passed days : ℤ} → whole ≡ full_years (t (start y)) (k y) → part ≡ year_total (t (start y)) (k y) → passed ≡ pos (made_passed y) → days ≡ pos (made_days y)
@@ -111,9 +106,12 @@ returns c =
     let s = start y in
     let p = s.requires.modest in
     let e : to_z w64 (of_z w64 c.round_share.result) ≡ due_in_year (t s) (v s) (k y) (day y) =
-    to_z-of_z {w = w64} (sfits_of c.round_share.type_inv)
+    to_z-of_z w64 _ (sfits_of c.round_share.type_inv)
     ∙ rw (days_back y, passed_back y, full_is c.before, total_is c.before, days_are y, passed_are y) at c.round_share.ensures in
-    (λ n h. e ∙ sym (due_is (t s) (v s) (is_date_lem s) (k y) n (day y) (in_year_lem y) h), rw e (due_small (t s) (v s) (is_date_lem s) (k y) p.0 p.1 (few y) (day y) (in_year_lem y)))
+    record {
+      amount = λ n h. e ∙ sym (due_is (t s) (v s) (is_date_lem s) (k y) n (day y) (in_year_lem y) h);
+      small = rw e (due_small (t s) (v s) (is_date_lem s) (k y) p.0 p.1 (few y) (day y) (in_year_lem y));
+    }
 
 pub day_number-day-requires : goal.day_number-day-requires
 day_number-day-requires c = (c.requires.valuation_value.1, date_year c)

@@ -1,11 +1,7 @@
-use mathlib.Core.Path.{◌≡◌}
-use Prim.Native.Nat.{◌+◌, ◌-◌, ◌*◌, ◌^◌, ◌≤◌}
-use lib.Seq.{slice}
+use Rattle.std.proofs.Common.{◌≡◌, ◌+◌, ◌*◌, ◌^◌, ◌≤◌, drop}
 use Rattle.model.specs.Calendar.{value_from}
 use Rattle.first_line.proofs.number_of.Given as goal
 
-abbrev pub invariant-loop-i : goal.invariant-loop-i
-invariant-loop-i l = (l.at ≤ l.i) × (l.i ≤ l.end) × (l.v + 23 ≤ 23 * 10 ^ (l.i - l.at)) × (value_from 0 (slice l.at l.end l.s) ≡ value_from l.v (slice l.i l.end l.s))
-
-abbrev pub decreases-loop-i : goal.decreases-loop-i
-decreases-loop-i l = l.end - l.i
+abbrev pub invariant-loop-b : goal.invariant-loop-b
+invariant-loop-b l =
+    record { small : l.v + 23 ≤ 23 * 10 ^ l.b-index; rest : value_from 0 l.digits ≡ value_from l.v (drop l.b-index l.digits) }

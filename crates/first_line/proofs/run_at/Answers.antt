@@ -1,39 +1,26 @@
--- `text::first_line::run_at` meets its contract: each return is a case of `run_at`. Assumes
--- nothing.
-use mathlib.Core.Path.{◌∙◌, ap}
-use Prim.Native.Nat.{ℕ, ◌+◌}
-use native.Mathlib.Omega.{arith}
-use Rattle.model.specs.declared.Run.TheVariants.{Number}
-use Rattle.first_line.specs.Runs.{run_none, run_long, run_other, run_past, run_is}
+-- `first_line::run_at` meets its contract: each return is a case of `run_at`. Assumes nothing.
+use Rattle.std.proofs.Common.{sym, ◌∙◌, arith}
+use Rattle.first_line.specs.Runs.{after, after_at, after_end, after_length, slice_is, run_none, run_long, run_other, run_past, run_is}
 use Rattle.first_line.proofs.run_at.Goals as goal
+use Rattle.first_line.proofs.run_at.Goals.{then-rest-n-via-then-rest-n, then-rest-n-via-else-rest-n+then-rest-n-2}
 
-pub returns-then-e-at : goal.returns-then-e-at
-returns-then-e-at c =
-    let d = c.before.before in
-    let s = d.before.before in
-    run_none s.args.s.now s.args.at s.args.end d.digits_end-e.result d.digits_end-e.ensures (omega arith)
+pub returns-in_default : goal.returns-in_default
+returns-in_default c = run_none _ c.args.at _ _ (after_end c.args.s.now c.args.at c.digits_in_front-n.ensures) (omega arith)
 
-pub returns-then-at-e : goal.returns-then-at-e
-returns-then-at-e c =
-    let d = c.before.before.before in
-    let s = d.before.before in
-    run_long s.args.s.now s.args.at s.args.end d.digits_end-e.result d.digits_end-e.ensures (omega arith)
+pub returns-in_default-2 : goal.returns-in_default-2
+returns-in_default-2 c = run_long _ c.args.at _ _ (after_end c.args.s.now c.args.at c.digits_in_front-n.ensures) (omega arith)
 
-pub returns-then-s-e : goal.returns-then-s-e
-returns-then-s-e c =
-    let d = c.before.before.before.before in
-    let s = d.before.before in
-    run_past s.args.s.now s.args.at s.args.end d.digits_end-e.result d.digits_end-e.ensures (omega arith) (omega arith) c.before.if-s-e.true (omega arith)
-
-pub returns-then-s-e-2 : goal.returns-then-s-e-2
-returns-then-s-e-2 c =
-    let d = c.before.before.before.before.before.before in
-    let s = d.before.before in
-    run_other s.args.s.now s.args.at s.args.end d.digits_end-e.result d.digits_end-e.ensures (omega arith) (omega arith) c.before.if-s-e-2.true
+pub returns-then-rest-n : goal.returns-then-rest-n
+returns-then-rest-n c =
+    let e = after_end c.args.s.now c.args.at c.digits_in_front-n.ensures in
+    elim c.then-rest-n.branch [
+      | then-rest-n-via-then-rest-n w ↦ run_past _ c.args.at _ _ e (omega arith) (omega arith) (omega (arith, after_length c.args.at c.args.s.now)) (omega arith)
+      | then-rest-n-via-else-rest-n+then-rest-n-2 w ↦
+          run_other _ c.args.at _ _ e (omega arith) (omega arith) (λ q. w.if-rest-n-2.true (after_at c.args.at c.args.s.now c.digits_in_front-n.result ∙ q))
+    ]
 
 pub returns : goal.returns
 returns c =
-    let d = c.before.before.before.before.before.before.before in
-    let s = d.before.before in
-    ap (λ (n : ℕ). Number n (d.digits_end-e.result + 1)) c.before.number_of-v.ensures
-    ∙ run_is s.args.s.now s.args.at s.args.end d.digits_end-e.result d.digits_end-e.ensures (omega arith) (omega arith) (omega arith) c.before.before.if-s-e-2.false
+    let e = after_end c.args.s.now c.args.at c.digits_in_front-n.ensures in
+    rw (c.number_of.ensures, after c.args.at c.args.s.now, sym (slice_is c.args.s.now c.args.at c.digits_in_front-n.result (omega arith)))
+    (run_is _ c.args.at _ _ e (omega arith) (omega arith) (omega arith) (sym (after_at c.args.at c.args.s.now c.digits_in_front-n.result) ∙ c.if-rest-n-2.false))

@@ -1,7 +1,6 @@
 -- `forecast::forecast` meets its contract: what `forecast_into` writes, with zeros for leftovers.
 -- Assumes nothing.
-use mathlib.Core.Bool.{false}
-use mathlib.Core.List.{[]}
+use Rattle.std.proofs.Common.{None}
 use Rattle.model.specs.Delays.{delays_of}
 use Rattle.model.specs.Questions.{of_forecast}
 use Rattle.model.specs.Calls.{forecast_refusal, forecast_answer, forecast_output}
@@ -13,7 +12,6 @@ use Rattle.forecast.proofs.forecast.Goals as goal
 pub returns : goal.returns
 unfolding forecast_refusal forecast_answer forecast_output of_forecast of_either asks_delays either_delays delays_of
 returns c =
-    let w = c.before.before.before.before in
-    let a = w.before.before.before.before.args in
-    let e = w.forecast_into-refusal.ensures in
-    record { result = by_value a.m a.file.now a.method a.basis false [] a.out.now (e.value, (e.leftovers_after, (e.out_after, e.near_reserves))) c.before.store_line.ensures; output = e.out_after; reserve = e.near_reserves }
+    let a = c.args in
+    let e = c.forecast_into-answer.ensures in
+    rw c.refusal_number.ensures (record { result = by_value a.m a.file.now a.method a.basis None a.out.now (e.value, (e.leftovers_after, (e.out_after, e.near_reserves))) c.store_line.ensures; output = e.out_after; reserve = e.near_reserves })

@@ -1,6 +1,5 @@
 -- `forecast::forecast_into` meets its contract: `forecast_file` with the delays solved here.
 -- Assumes nothing.
-use mathlib.Core.Path.{refl}
 use Rattle.model.specs.Delays.{delays_of}
 use Rattle.model.specs.Questions.{of_forecast}
 use Rattle.model.specs.Calls.{forecast_refusal, forecast_answer, forecast_output}
@@ -13,9 +12,3 @@ unfolding forecast_refusal forecast_answer forecast_output of_forecast of_either
 returns c =
     let w = c.forecast_file.ensures in
     record { value = w.0; leftovers_after = w.1.0; out_after = w.1.1.0; near_reserves = w.1.1.1 }
-
-pub slice_bounds-forecast_file-end : goal.slice_bounds-forecast_file-end
-slice_bounds-forecast_file-end c = refl
-
-pub forecast_file-requires : goal.forecast_file-requires
-forecast_file-requires c = tt

@@ -11,6 +11,3 @@ unfolding forecast_with_refusal forecast_with_answer forecast_with_output of_for
 returns c =
     let w = c.forecast_file.ensures in
     record { value = w.0; leftovers_after = w.1.0; out_after = w.1.1.0; near_reserves = w.1.1.1 }
-
-pub forecast_file-requires : goal.forecast_file-requires
-forecast_file-requires c = tt

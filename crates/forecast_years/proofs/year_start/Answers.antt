@@ -1,20 +1,14 @@
--- `dates::window::year_start` meets its contract. Assumes nothing.
-use mathlib.Core.Path.{◌∙◌, ap}
-use native.Mathlib.Omega.{arith}
-use Rattle.model.specs.Dates.{day_number}
+-- `forecast_years::year_start` meets its contract. Assumes nothing.
+use Rattle.std.proofs.Common.{arith}
 use Rattle.dates.specs.DatesLaws.{anniversary_is_date}
 use Rattle.forecast_years.specs.YearsLaws.{valued, anniversary_year}
 use Rattle.forecast_years.proofs.year_start.Goals as goal
 
-pub returns : goal.returns
-returns c = c.day_number.ensures ∙ ap day_number c.before.anniversary.ensures
-
 pub anniversary-requires : goal.anniversary-requires
-anniversary-requires c = omega (arith, (valued _ c.requires.0).to, c.requires.1)
+anniversary-requires c = omega (arith, (valued _ c.requires.0).to)
 
 pub day_number-requires : goal.day_number-requires
 day_number-requires c =
-    let s = c.before in
-    let v = s.args.valuation in
-    let i = valued v s.requires.0 in
-    rw c.anniversary.ensures (anniversary_is_date v s.args.t i.date, rw (anniversary_year v s.args.t) (omega (arith, i.to, s.requires.1)))
+    let v = c.args.valuation in
+    let i = valued v c.requires.0 in
+    rw c.anniversary.ensures (anniversary_is_date v c.args.t i.date, rw (anniversary_year v c.args.t) (omega (arith, i.to)))

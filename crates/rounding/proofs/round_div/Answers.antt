@@ -1,12 +1,7 @@
--- `arithmetic::round_div` meets its contract: the machine's quotient and remainder are what
+-- `rounding::round_div` meets its contract: the machine's quotient and remainder are what
 -- `round_quotient` asks. Assumes nothing.
-use mathlib.Core.Path.{ap, ◌∙◌}
-use native.Mathlib.Omega.{arith}
-use lib.IntN.{ℤ}
+use Rattle.std.proofs.Common.{ap, ◌∙◌, arith, ℤ, w64, SFits, to_z-of_z}
 use lib.Signed.{quot_z, rem_z}
-use mir.Syntax.{w64}
-use mir.Val.{SFits}
-use mir.Facts.{to_z-of_z}
 use Rattle.model.specs.Rounding.{r}
 use Rattle.rounding.specs.Words.{fits_abs}
 use Rattle.rounding.specs.Truncated.{Truncated, truncated}
@@ -23,20 +18,9 @@ module _ (c : Start) where
   rem_fits : SFits w64 (rem_z c.args.a c.args.b)
   rem_fits = fits_abs (omega (arith, parts.rem))
 
-pub nonzero_div-a : goal.nonzero_div-a
-nonzero_div-a c = ((parts c).some, rw (to_z-of_z c.ranges.a, to_z-of_z c.ranges.b) (quot_fits c))
-
-pub round_quotient-requires : goal.round_quotient-requires
-round_quotient-requires c =
-    rw (to_z-of_z c.ranges.a, to_z-of_z c.ranges.b, to_z-of_z (quot_fits c), to_z-of_z (rem_fits c))
-    (c.requires.0, c.requires.1, (parts c).rem, omega (arith, (parts c).quot))
-
 pub returns : goal.returns
 returns c =
     let s = c.before in
     to_z-of_z {w = w64} (record { sfits = c.round_quotient.type_inv })
     ∙ c.round_quotient.ensures
     ∙ rw (to_z-of_z s.ranges.a, to_z-of_z s.ranges.b, to_z-of_z (quot_fits s), to_z-of_z (rem_fits s)) (ap (λ (z : ℤ). r z s.args.b) (parts s).whole)
-
-pub nonzero_rem-a : goal.nonzero_rem-a
-nonzero_rem-a c = nonzero_div-a c

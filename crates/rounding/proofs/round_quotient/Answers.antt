@@ -1,13 +1,6 @@
--- `arithmetic::round_quotient` meets its contract: the step from the quotient, for a remainder of
+-- `rounding::round_quotient` meets its contract: the step from the quotient, for a remainder of
 -- either sign. Assumes nothing.
-use mathlib.Core.Path.{◌≡◌, ◌∙◌}
-use mathlib.Core.List.{[], ◌∷◌}
-use Prim.Native.Nat.{◌<◌}
-use native.Mathlib.Omega.{arith}
-use lib.IntN.{ℤ, pos, negsuc, neg_ℤ, nat_abs, ◌+ℤ◌, ◌-ℤ◌}
-use mir.Syntax.{w64}
-use mir.Val.{SFits, to_z, of_z}
-use mir.Facts.{to_z-of_z}
+use Rattle.std.proofs.Common.{◌≡◌, ◌∙◌, [], ◌∷◌, ◌<◌, arith, ℤ, pos, negsuc, neg_ℤ, nat_abs, ◌+ℤ◌, ◌-ℤ◌, w64, SFits, to_z, of_z, to_z-of_z}
 use Rattle.integers.specs.Parts.{◌⋖◌}
 use Rattle.integers.specs.Linear.{lin, stmt}
 use Rattle.integers.specs.Order.{lt_yes, lt_no, nat_abs-+ℤ, nat_abs--ℤ}
@@ -59,28 +52,19 @@ on_is c =
 pub returns-then-rem-lt0 : goal.returns-then-rem-lt0
 returns-then-rem-lt0 c =
     let s = c.before.before in
-    let n = rw (to_z-of_z s.ranges.rem) at c.before.if-rem-lt0.true in
+    let n = rw (to_z-of_z s.ranges.rem) at c.if-rem-lt0.true in
     rw (to_z-of_z s.ranges.q, back_is c, to_z-of_z (previous_fits s))
     (r_step_down s.args.q s.args.rem s.args.d s.requires.0 (lt_yes {a = s.args.rem} {b = pos 0} n) (below _ _ s.requires.0 s.requires.2).0)
 
 pub returns-else-rem-lt0 : goal.returns-else-rem-lt0
 returns-else-rem-lt0 c =
     let s = c.before.before in
-    let n = rw (to_z-of_z s.ranges.rem) at c.before.if-rem-lt0.false in
+    let n = rw (to_z-of_z s.ranges.rem) at c.if-rem-lt0.false in
     rw (to_z-of_z s.ranges.q, on_is c, to_z-of_z (next_fits s))
     (r_step s.args.q s.args.rem s.args.d s.requires.0 (lt_no {a = s.args.rem} {b = pos 0} n) (below _ _ s.requires.0 s.requires.2).1)
 
-pub overflow_sub-rem : goal.overflow_sub-rem
-overflow_sub-rem c = rw (to_z-of_z c.before.ranges.rem) (neg_fits c.before)
-
-pub overflow_add-d : goal.overflow_add-d
-overflow_add-d c = rw (to_z-of_z c.before.ranges.d, to_z-of_z c.before.ranges.rem) (sum_fits c.before)
-
 pub overflow_sub-result : goal.overflow_sub-result
-overflow_sub-result c = rw (to_z-of_z c.before.before.ranges.q, back_is c) (previous_fits c.before.before)
-
-pub overflow_sub-d : goal.overflow_sub-d
-overflow_sub-d c = rw (to_z-of_z c.before.ranges.d, to_z-of_z c.before.ranges.rem) (less_fits c.before)
+overflow_sub-result c = rw (to_z-of_z c.ranges.q, back_is c) (previous_fits c.before.before)
 
 pub overflow_add-result : goal.overflow_add-result
-overflow_add-result c = rw (to_z-of_z c.before.before.ranges.q, on_is c) (next_fits c.before.before)
+overflow_add-result c = rw (to_z-of_z c.ranges.q, on_is c) (next_fits c.before.before)

@@ -1,15 +1,7 @@
--- `arithmetic::round_share` meets its contract: part's quotient and remainder by n, and those of
+-- `rounding::round_share` meets its contract: part's quotient and remainder by n, and those of
 -- what the remainder comes to, make up the whole sum. Assumes nothing.
-use mathlib.Core.Path.{◌≡◌, ap, ◌∙◌}
-use mathlib.Core.List.{[], ◌∷◌}
-use Prim.Native.Nat.{◌*◌, ◌^◌, ◌≤◌}
-use native.Mathlib.Nat.{le_refl, mul-le-mul}
-use native.Mathlib.Omega.{arith}
-use lib.IntN.{ℤ, nat_abs, ◌+ℤ◌, ◌*ℤ◌}
+use Rattle.std.proofs.Common.{◌≡◌, ap, ◌∙◌, [], ◌∷◌, ◌*◌, ◌^◌, ◌≤◌, le_refl, mul-le-mul, arith, ℤ, nat_abs, ◌+ℤ◌, ◌*ℤ◌, w64, SFits, to_z-of_z}
 use lib.Signed.{quot_z, rem_z}
-use mir.Syntax.{w64}
-use mir.Val.{SFits}
-use mir.Facts.{to_z-of_z}
 use Rattle.integers.specs.Order.{nat_abs-+ℤ, nat_abs-*ℤ}
 use Rattle.integers.specs.Solver.{ring, form}
 use Rattle.model.specs.Rounding.{r}
@@ -128,14 +120,8 @@ round_quotient-requires c =
     )
     (c.requires.pos.0, omega (arith, c.requires.pos.1), (second c).rem, all_most c)
 
-pub nonzero_rem-left : goal.nonzero_rem-left
-nonzero_rem-left c = ((first c).some, rw (to_z-of_z c.ranges.part, to_z-of_z c.ranges.n) (quot_fits c))
-
 pub overflow_mul-left : goal.overflow_mul-left
 overflow_mul-left c = rw (to_z-of_z c.ranges.part, to_z-of_z c.ranges.n, to_z-of_z c.ranges.k, to_z-of_z (rem_fits c)) (left_fits c)
-
-pub nonzero_div-part : goal.nonzero_div-part
-nonzero_div-part c = ((first c).some, rw (to_z-of_z c.ranges.part, to_z-of_z c.ranges.n) (quot_fits c))
 
 pub overflow_mul-part : goal.overflow_mul-part
 overflow_mul-part c = rw (to_z-of_z c.ranges.part, to_z-of_z c.ranges.n, to_z-of_z c.ranges.k, to_z-of_z (quot_fits c)) (times_fits c)

@@ -1,13 +1,6 @@
--- `arithmetic::round_signed` meets its contract. Assumes nothing.
-use mathlib.Core.Path.{◌≡◌, sym, ap, ◌∙◌}
-use mathlib.Core.List.{[], ◌∷◌}
-use Prim.Native.Nat.{ℕ, ◌+◌, ◌*◌, ◌^◌, ◌≤◌, ◌<◌}
-use native.Mathlib.Nat.{suc-mul}
-use native.Mathlib.Omega.{arith}
-use lib.IntN.{ℤ, pos, negsuc, nat_abs, ◌+ℤ◌, ◌*ℤ◌}
-use mir.Syntax.{w64}
-use mir.Val.{to_z, of_z}
-use mir.Facts.{to_z-of_z, to_z_pos}
+-- `rounding::round_signed` meets its contract. Assumes nothing.
+use Rattle.std.proofs.Common.{◌≡◌, sym, ap, ◌∙◌, [], ◌∷◌, ℕ, ◌+◌, ◌*◌, ◌^◌, ◌≤◌, ◌<◌, suc-mul, arith, ℤ, pos, negsuc, nat_abs, ◌+ℤ◌, ◌*ℤ◌, w64, to_z, of_z, to_z-of_z}
+use mir.Facts.{to_z_pos}
 use Rattle.integers.specs.Parts.{◌⋖◌}
 use Rattle.integers.specs.Solver.{ring, form}
 use Rattle.model.specs.Rounding.{r}
@@ -42,16 +35,10 @@ k_is c =
     ∙ (rw (to_z-of_z s.ranges.d, q_back s, rem_back s) at c.round_quotient.ensures)
     ∙ ap (λ (z : ℤ). r z s.args.d) (made s.args.q s.args.rem s.args.d s.requires.0)
 
-pub round_quotient-requires : goal.round_quotient-requires
-round_quotient-requires c =
-    rw (to_z-of_z c.ranges.d, q_back c, rem_back c)
-    (c.requires.0, c.requires.1, c.requires.2, omega arith)
-
 pub returns : goal.returns
 returns c =
-    let s = c.before.before in
-    to_z-of_z {w = w64} (record { sfits = c.with_sign.type_inv }) ∙ c.with_sign.ensures ∙ ap (turned s.args.negative) (k_is c.before)
-    ∙ sym (r_turned s.args.negative _ s.args.d s.requires.0)
+    to_z-of_z {w = w64} (record { sfits = c.with_sign.type_inv }) ∙ c.with_sign.ensures ∙ ap (turned c.args.negative) (k_is c.before)
+    ∙ sym (r_turned c.args.negative _ c.args.d c.requires.0)
 
 pub with_sign-requires : goal.with_sign-requires
 with_sign-requires c = rw (k_is c) (omega (arith, small c.before))

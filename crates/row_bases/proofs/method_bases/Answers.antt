@@ -1,105 +1,61 @@
 -- `row_bases::method_bases` meets its contract. Assumes nothing.
-use mathlib.Core.Path.{◌≡◌, refl, sym, ◌∙◌}
-use mathlib.Core.Bool.{true}
-use Prim.Native.Nat.{ℕ, ◌≤◌}
-use native.Mathlib.Omega.{arith}
-use borrow.Author.Tests.{not-true, not-false}
-use Rattle.model.specs.Shares as Shares
+use Rattle.std.proofs.Common.{refl, sym, ◌∙◌, arith}
 use Rattle.model.specs.Calls.{no_set}
-use Rattle.model.specs.Lent.{triangle_in, lent_set}
-use Rattle.model.specs.declared.TriangleSet.{TriangleSet}
+use Rattle.model.specs.Lent.{lent_set}
 use Rattle.chain_ladder.specs.DevelopedLaws.{paid_ready}
 use Rattle.ladder.specs.LadderLaws.{ladder_ready, ladder_ultimates}
-use Rattle.row_bases.specs.Bases.{AllSizes}
-use Rattle.row_bases.specs.MethodLaws.{all_sizes, left_overs, answer_13, answer_14, answer_yes, row_bases_are}
+use Rattle.refusals.specs.RefusalsLaws.{handed_on, none_of, some_of}
+use Rattle.row_bases.specs.MethodLaws.{known_number, all_sizes, left_overs, answer_13, answer_14, answer_yes, row_bases_are}
 use Rattle.row_bases.proofs.method_bases.Goals as goal
-use Rattle.row_bases.proofs.method_bases.Lts as lts
-use Rattle.row_bases.proofs.method_bases.Tie as tie
-use Rattle.row_bases.proofs.method_bases.Reads as reads
-use Rattle.row_bases.proofs.method_bases.Goals.{Start}
 
--- the places, as the steps before a goal know them
-abbrev After-incurred_under : Type 0
-After-incurred_under = lts.After-incurred_under tie.the-claims reads.Pre reads.Post tie.handed_clauses
+pub returns-in_err-w : goal.returns-in_err-w
+returns-in_err-w c like =
+    let known = known_number c.requires.asked.known c.from-method.ensures in
+    let none = none_of _ _ _ c.in_err-w.ensures.value in
+    let no = answer_13 c.args.m (lent_set like c.args.set.now) c.args.method c.requires.asked (rw (known, none.0) at c.incurred_under.ensures) in
+    rw (handed_on _ _ c.from_residual.ensures.1, none.1) (record { refusal = sym no; bases = λ z. absurd (omega arith); lefts = refl })
 
-abbrev After-ultimates-u : Type 0
-After-ultimates-u = lts.After-ultimates tie.the-claims reads.Pre reads.Post tie.handed_clauses
+pub ultimates-u-requires : goal.ultimates-u-requires
+ultimates-u-requires c = ladder_ready c.requires.ladder.0 (paid_ready c.requires.asked.shared)
 
-abbrev Else-not-incurred_under : Type 0
-Else-not-incurred_under = lts.Else1 tie.the-claims reads.Pre reads.Post tie.handed_clauses
+pub row_bases-requires : goal.row_bases-requires
+row_bases-requires c =
+    let known = known_number c.requires.asked.known c.from-method.ensures in
+    let p = c.requires.asked in
+    let few = p.shared.counts.small.few in
+    let l = p.shared.counts.least in
+    let w = rw (known, some_of _ _ _ c.in_ok-w.ensures.value) at c.incurred_under.ensures in
+    (omega arith, few, rw known (all_sizes c.args.m (lent_set no_set c.args.set.now) c.args.method p w (c.ultimates-u.ensures ∙ ladder_ultimates c.requires.ladder.0 few) c.requires.ladder.0.latest_is))
 
-module _ (c : After-incurred_under) where
-  abbrev start : Start
-  start = c.before.before
+pub returns-in_err-v : goal.returns-in_err-v
+returns-in_err-v c like =
+    let known = known_number c.requires.asked.known c.from-method.ensures in
+    let p = c.requires.asked in
+    let w = rw (known, some_of _ _ _ c.in_ok-w.ensures.value) at c.incurred_under.ensures in
+    let u = c.ultimates-u.ensures ∙ ladder_ultimates c.requires.ladder.0 p.shared.counts.small.few in
+    let none = none_of _ _ _ c.in_err-v.ensures.value in
+    let no = answer_14 c.args.m (lent_set like c.args.set.now) c.args.method p w u c.requires.ladder.0.latest_is (rw (known, none.0) at c.row_bases.ensures) in
+    rw (handed_on _ _ c.from_residual-in_err-v.ensures.1, none.1) (record { refusal = sym no; bases = λ z. absurd (omega arith); lefts = refl })
 
-  abbrev m : ℕ
-  m = start.args.m
-
-  abbrev s : TriangleSet → TriangleSet
-  s like = lent_set like start.args.set.now
-
-  few : m ≤ 20
-  few = start.requires.asked.shared.counts.small.few
-
--- question 13 got a yes
-module _ (c : Else-not-incurred_under) where
-  abbrev one : After-incurred_under
-  one = c.before
-
-  yes_13 : one.incurred_under.result ≡ true
-  yes_13 = not-false _ c.if-not-incurred_under.false-raw
-
-module _ (c : After-ultimates-u) where
-  abbrev two : Else-not-incurred_under
-  two = c.before
-
-  abbrev base : After-incurred_under
-  base = one two
-
-  u_is : c.ultimates-u.result ≡ Shares.ultimates (m base) (triangle_in 1 (start base).args.set.now)
-  u_is = c.ultimates-u.ensures ∙ ladder_ultimates (start base).requires.ladder.0 (few base)
-
-pub returns-then-not-incurred_under : goal.returns-then-not-incurred_under
-returns-then-not-incurred_under c like =
-    let b = c.before in
-    let no = answer_13 (m b) (s b like) (start b).args.method (start b).requires.asked b.incurred_under.ensures (not-true _ c.if-not-incurred_under.true-raw) in
-    record { refusal = sym no; bases = λ z. absurd (omega arith); lefts = refl }
-
-pub returns-then-not-row_bases : goal.returns-then-not-row_bases
-returns-then-not-row_bases c like =
-    let r = c.before in
-    let t = r.before.before.before.before in
-    let b = base t in
-    let no = answer_14 (m b) (s b like) (start b).args.method (start b).requires.asked b.incurred_under.ensures (yes_13 (two t)) (u_is t) (start b).requires.ladder.0.latest_is r.row_bases.ensures (not-true _ c.if-not-row_bases.true-raw) in
-    record { refusal = sym no; bases = λ z. absurd (omega arith); lefts = refl }
+pub leftovers-requires : goal.leftovers-requires
+leftovers-requires c =
+    let known = known_number c.requires.asked.known c.from-method.ensures in
+    let p = c.requires.asked in
+    let few = p.shared.counts.small.few in
+    let w = rw (known, some_of _ _ _ c.in_ok-w.ensures.value) at c.incurred_under.ensures in
+    (few, rw known (all_sizes c.args.m (lent_set no_set c.args.set.now) c.args.method p w (c.ultimates-u.ensures ∙ ladder_ultimates c.requires.ladder.0 few) c.requires.ladder.0.latest_is))
 
 pub returns : goal.returns
 returns c like =
-    let e = c.before.before.before in
-    let r = e.before in
-    let t = r.before.before.before.before in
-    let b = base t in
-    let yes = not-false _ e.if-not-row_bases.false-raw in
+    let known = known_number c.requires.asked.known c.from-method.ensures in
+    let s = lent_set like c.args.set.now in
+    let p = c.requires.asked in
+    let w = rw (known, some_of _ _ _ c.in_ok-w.ensures.value) at c.incurred_under.ensures in
+    let u = c.ultimates-u.ensures ∙ ladder_ultimates c.requires.ladder.0 p.shared.counts.small.few in
+    let l = c.requires.ladder.0.latest_is in
+    let v = rw (known, some_of _ _ _ c.in_ok-v.ensures.value) at c.row_bases.ensures in
     record {
-      refusal = sym (answer_yes (m b) (s b like) (start b).args.method (start b).requires.asked b.incurred_under.ensures (yes_13 (two t)) (u_is t) (start b).requires.ladder.0.latest_is r.row_bases.ensures yes);
-      bases = λ _. row_bases_are (m b) (s b like) (start b).args.method (start b).requires.asked b.incurred_under.ensures (yes_13 (two t)) (u_is t) (start b).requires.ladder.0.latest_is r.row_bases.ensures yes;
-      lefts = c.leftovers.ensures ∙ left_overs (m b) (s b like) (start b).args.method (start b).requires.asked b.incurred_under.ensures (yes_13 (two t)) (u_is t) (start b).requires.ladder.0.latest_is;
+      refusal = sym (answer_yes c.args.m s c.args.method p w u l v);
+      bases = λ _. row_bases_are c.args.m s c.args.method p w u l v;
+      lefts = (rw known at c.leftovers.ensures) ∙ left_overs c.args.m s c.args.method p w u l;
     }
-
--- the sizes that the bases ask
-sized : (c : After-ultimates-u) → let b = base c in AllSizes (m b) (start b).args.method c.ultimates-u.result (start b).args.paid_latest.now b.incurred_under.new.w
-sized c =
-    let b = base c in
-    all_sizes (m b) (s b no_set) (start b).args.method (start b).requires.asked b.incurred_under.ensures (yes_13 (two c)) (u_is c) (start b).requires.ladder.0.latest_is
-
-pub incurred_under-requires : goal.incurred_under-requires
-incurred_under-requires c = let p = c.before.requires.asked in ((let l = p.shared.counts.least in omega arith), p.incurred, refl)
-
-pub ultimates-u-requires : goal.ultimates-u-requires
-ultimates-u-requires c = let p = (start (one c.before)).requires in ladder_ready p.ladder.0 (paid_ready p.asked.shared)
-
-pub row_bases-requires : goal.row_bases-requires
-row_bases-requires c = let t = c.before.before.before in let l = (start (base t)).requires.asked.shared.counts.least in (omega arith, few (base t), sized t, (start (base t)).requires.ladder.1)
-
-pub leftovers-requires : goal.leftovers-requires
-leftovers-requires c = let t = c.before.before.before.before.before.before.before in (few (base t), sized t)

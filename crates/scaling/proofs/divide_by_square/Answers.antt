@@ -1,9 +1,6 @@
--- `arithmetic::divide_by_square` meets its contract: the product of two numbers of two digits, and
+-- `scaling::divide_by_square` meets its contract: the product of two numbers of two digits, and
 -- how large its parts are. Assumes nothing.
-use mathlib.Core.Path.{◌≡◌, ap₂, ◌∙◌}
-use Prim.Native.Nat.{ℕ, ◌+◌, ◌*◌, ◌/◌, ◌%◌, ◌≤◌}
-use native.Mathlib.Nat.{mul-le-mul}
-use native.Mathlib.Omega.{arith}
+use Rattle.std.proofs.Common.{◌≡◌, ap₂, ◌∙◌, ℕ, ◌+◌, ◌*◌, ◌/◌, ◌%◌, ◌≤◌, mul-le-mul, arith}
 use Rattle.scaling.proofs.divide_by_square.Goals as goal
 use Rattle.scaling.proofs.divide_by_square.Goals.{Start}
 
@@ -58,27 +55,6 @@ module _ (c : Start) where
 
   high_most : v / base * (x / base) ≤ 200000 * 9000000000
   high_most = mul-le-mul v1 x1
-
-pub overflow_mul-low : goal.overflow_mul-low
-overflow_mul-low c = omega (arith, low_most c)
-
-pub overflow_mul-mid : goal.overflow_mul-mid
-overflow_mul-mid c = omega (arith, cross_most c)
-
-pub overflow_mul-mid-2 : goal.overflow_mul-mid-2
-overflow_mul-mid-2 c = omega (arith, cross_most c)
-
-pub overflow_add-mid : goal.overflow_add-mid
-overflow_add-mid c = omega (arith, cross_most c)
-
-pub overflow_add-mid-2 : goal.overflow_add-mid-2
-overflow_add-mid-2 c = omega (arith, cross_most c, low_most c)
-
-pub overflow_mul-result : goal.overflow_mul-result
-overflow_mul-result c = omega (arith, high_most c)
-
-pub overflow_add-result : goal.overflow_add-result
-overflow_add-result c = omega (arith, high_most c, cross_most c, low_most c)
 
 pub returns : goal.returns
 returns c = (cut (v c) (x c), omega arith, omega (arith, high_most c, cross_most c, low_most c))

@@ -1,14 +1,7 @@
--- `arithmetic::lowest_digit` meets its contract: the remainders of two numbers, of either sign, and
+-- `scaling::lowest_digit` meets its contract: the remainders of two numbers, of either sign, and
 -- of their product. Assumes nothing.
-use mathlib.Core.Path.{◌≡◌, refl, ap, ap₂, ◌∙◌}
-use Prim.Native.Nat.{ℕ, suc, ◌+◌, ◌*◌, ◌/◌, ◌%◌, ◌≤◌, ◌<◌}
-use native.Mathlib.Nat.{mul-le-mul}
-use native.Mathlib.Omega.{arith}
-use lib.IntN.{ℤ, pos, negsuc, nat_abs, ◌*ℤ◌}
-use lib.Signed.{quot_z, rem_z}
-use mir.Syntax.{w64}
-use mir.Val.{SFits}
-use mir.Facts.{to_z-of_z}
+use Rattle.std.proofs.Common.{◌≡◌, refl, ap, ap₂, ◌∙◌, ℕ, suc, ◌+◌, ◌*◌, ◌/◌, ◌%◌, ◌≤◌, ◌<◌, mul-le-mul, arith, ℤ, pos, negsuc, nat_abs, ◌*ℤ◌, w64, SFits, to_z-of_z}
+use lib.Signed.{rem_z}
 use Rattle.integers.specs.Order.{nat_abs-neg_ℤ, nat_abs-*ℤ}
 use Rattle.rounding.specs.Words.{fits_abs}
 use Rattle.scaling.proofs.lowest_digit.Goals as goal
@@ -20,15 +13,6 @@ base = 1000000000
 abs_rem : (z : ℤ) → nat_abs (rem_z z (pos base)) ≡ nat_abs z % base
 abs_rem (pos n) = refl
 abs_rem (negsuc n) = nat_abs-neg_ℤ (pos (suc n % base))
-
-abs_quot : (z : ℤ) → nat_abs (quot_z z (pos base)) ≡ nat_abs z / base
-abs_quot (pos n) = refl
-abs_quot (negsuc n) = nat_abs-neg_ℤ (pos (suc n / base))
-
--- a word's magnitude
-abs_most : {z : ℤ} → SFits w64 z → nat_abs z ≤ 9223372036854775808
-abs_most {z = pos n} h = omega (arith, h.sfits)
-abs_most {z = negsuc n} h = omega (arith, h.sfits)
 
 least : (a x : ℕ) → a % base * (x % base) < 1000000000000000000
 least a x = let h : a % base ≤ 999999999 = omega arith in let k : x % base ≤ 999999999 = omega arith in omega (arith, mul-le-mul h k)
@@ -43,12 +27,6 @@ lowest a x =
     expand (a / base) (a % base) (x / base) (x % base) ∙ ap₂ (λ (m n : ℕ). m * n % base) d e
 
 module _ (c : Start) where
-  v_fits : SFits w64 (quot_z c.args.v (pos base))
-  v_fits = fits_abs (omega (arith, abs_quot c.args.v, abs_most c.ranges.v))
-
-  x_fits : SFits w64 (quot_z c.args.x (pos base))
-  x_fits = fits_abs (omega (arith, abs_quot c.args.x, abs_most c.ranges.x))
-
   v_rem : SFits w64 (rem_z c.args.v (pos base))
   v_rem = fits_abs (omega (arith, abs_rem c.args.v))
 
@@ -66,12 +44,6 @@ returns c =
     let s = c.before in
     let e = rw (to_z-of_z s.ranges.v, to_z-of_z s.ranges.x, to_z-of_z (v_rem s), to_z-of_z (x_rem s), to_z-of_z (product_fits s)) at c.magnitude.ensures in
     ap (λ (n : ℕ). n % base) (e ∙ abs_is s) ∙ lowest (nat_abs s.args.v) (nat_abs s.args.x)
-
-pub nonzero_rem-v : goal.nonzero_rem-v
-nonzero_rem-v c = (omega arith, rw (to_z-of_z c.ranges.v) (v_fits c))
-
-pub nonzero_rem-x : goal.nonzero_rem-x
-nonzero_rem-x c = (omega arith, rw (to_z-of_z c.ranges.x) (x_fits c))
 
 pub overflow_mul-v : goal.overflow_mul-v
 overflow_mul-v c = rw (to_z-of_z c.ranges.v, to_z-of_z c.ranges.x, to_z-of_z (v_rem c), to_z-of_z (x_rem c)) (product_fits c)

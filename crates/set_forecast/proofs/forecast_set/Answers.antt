@@ -1,6 +1,5 @@
--- `forecast::set::forecast_set` meets its contract: `forecast_either` with the delays solved here.
+-- `set_forecast::forecast_set` meets its contract: `forecast_either` with the delays solved here.
 -- Assumes nothing.
-use mathlib.Core.Path.{refl}
 use Rattle.model.specs.Delays.{delays_of}
 use Rattle.model.specs.Questions.{of_forecast}
 use Rattle.delays.specs.Prepared.{asks_delays}
@@ -9,10 +8,4 @@ use Rattle.set_forecast.proofs.forecast_set.Goals as goal
 
 pub returns : goal.returns
 unfolding set_refusal of_forecast of_either asks_delays either_delays delays_of
-returns c = c.before.forecast_either.ensures
-
-pub slice_bounds-forecast_either-end : goal.slice_bounds-forecast_either-end
-slice_bounds-forecast_either-end c = refl
-
-pub forecast_either-requires : goal.forecast_either-requires
-forecast_either-requires c = c.before.before.before.requires
+returns c = c.forecast_either.ensures

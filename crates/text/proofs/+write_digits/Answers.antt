@@ -1,6 +1,6 @@
 -- `text::write_digits` meets its contract: one digit, or those of n / 10 and then the last. The
 -- measure is n. Assumes nothing.
-use native.Mathlib.Omega.{arith}
+use Rattle.std.proofs.Common.{arith}
 use Rattle.text.specs.Digits.{digits_small, digits_large, length_small, length_large}
 use Rattle.text.specs.Written.{written_then}
 use Rattle.text.proofs.+write_digits.Goals as goal

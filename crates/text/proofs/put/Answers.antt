@@ -1,5 +1,5 @@
 -- `text::put` meets its contract. Assumes nothing.
-use native.Mathlib.Omega.{arith}
+use Rattle.std.proofs.Common.{arith}
 use Rattle.text.specs.Written.{written_byte}
 use Rattle.text.proofs.put.Goals as goal
 

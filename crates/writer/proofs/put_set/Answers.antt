@@ -1,9 +1,5 @@
 -- `put_set` meets its contract: the kinds, one after the other. Assumes nothing.
-use native.Mathlib.Omega.{arith}
-use Prim.Native.Nat.{ℕ, ◌≤◌, ◌+◌}
-use mathlib.Core.Path.{◌≡◌, sym, ap, ◌∙◌}
-use mathlib.Core.List.{List}
-use lib.ListN.{length}
+use Rattle.std.proofs.Common.{ℕ, ◌≤◌, ◌+◌, ◌≡◌, sym, ap, ◌∙◌, List, length, arith}
 use Rattle.model.specs.Lists.{chained}
 use Rattle.model.specs.Records.{given_set}
 use Rattle.model.specs.Overlay.{overlay}

@@ -1,14 +1,13 @@
 -- `value` meets its contract. Assumes nothing.
-use borrow.Author.Rules.{rules}
-use mathlib.Core.Path.{ap, ◌∙◌}
-use mir.Syntax.{w64}
-use mir.Val.{SFits}
-use mir.Facts.{to_z-of_z}
+use Rattle.std.proofs.Common.{◌+◌, ◌*◌, ap, ◌∙◌, FitsSigned, w64, rules}
+use Rattle.std.proofs.Math.Facts.{to_z-of_z}
 use Rattle.model.specs.Records.{signed, value_at}
+use Rattle.records.specs.Bytes.{from_eight, least_part, signed_is}
 use Rattle.records.proofs.fields.value.Goals as goal
 
 pub returns : goal.returns
 unfolding value_at
 returns c =
-    let s : SFits w64 c.to_signed.result = search rules in
-    to_z-of_z s ∙ c.to_signed.ensures ∙ ap signed c.before.eight.ensures.is
+    let part = rw c.unwrap.ensures at c.try_into.ensures.1 in
+    let s : FitsSigned w64 c.from_le_bytes.result = search rules in
+    to_z-of_z s ∙ c.from_le_bytes.ensures ∙ signed_is _ ∙ ap signed (from_eight _ ∙ least_part 8 c.args.file.now (16 * c.args.k + 8) c.unwrap.result part.same)

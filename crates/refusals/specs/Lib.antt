@@ -1,0 +1,3 @@
+-- The questions' numbers, and their law.
+pub mod Refusals
+pub mod RefusalsLaws

@@ -1,4 +1,5 @@
-// Rounded quotients of a product by a number, also past 64 bits (01, Rounding).
+// Rounded quotients of a product by a number, also past 64 bits (01, Rounding), and sums of numbers
+// that stand evenly apart.
 #![tactic(auto)]
 
 ghost use Rattle.std.specs.Prelude.{◌≡◌, true, ◌+◌, ◌*◌, ◌/◌, ◌^◌, ◌<◌, ◌≤◌, pos, nat_abs, ◌*ℤ◌};

@@ -70,7 +70,8 @@ fn test_set(
     })
 }
 
-// Questions 1 to 6 and 8, then 9 to 14 of the cut set, and the back-test of a file.
+// Questions 1 to 6 and 8, then 9 to 14 of the cut set, and the back-test of a file; method and
+// basis are numbers, as the call has them.
 fn test_file(
     file: &[u8],
     m: usize,

@@ -60,7 +60,7 @@ fn respond_short(input: &[u8], out: &mut [u8]) -> usize
 
 // The text that `closing` prints for its whole standard input, written to the front of the output;
 // hands back its length. Where the output is too short for the text, it stays as it was and the
-// answer is 0. No text is longer than 2,573 bytes.
+// answer is 0, as C has it. No text is longer than 2,573 bytes.
 pub fn respond(input: &[u8], out: &mut [u8]) -> usize
     ensures { (result ≡ respond_answer input.now out.old) × (out.new ≡ respond_output input.now out.old) }
 {

@@ -12,7 +12,7 @@ use model::{CashAnswer, Date};
 use refusals::Refusal;
 use tally::tally_of;
 
-// What falls due in a window.
+// What falls due in a window; method, basis and the dates are as the call has them.
 fn due_in(
     file: &[u8],
     m: usize,

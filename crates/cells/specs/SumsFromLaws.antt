@@ -1,4 +1,4 @@
--- Laws of sumsFrom: the sums over the reporting delays after k, and what they become as each
+-- Laws of sums_from: the sums over the reporting delays after k, and what they become as each
 -- payment delay l adds b(k) × p(l). Assumes nothing.
 use Rattle.std.specs.Prelude.{◌≡◌, refl, Bool, true, false, ◌&&◌, cond, ◌⊎◌, List, leb, ltb, ℤ, pos, nat_abs, ◌+ℤ◌, ◌-ℤ◌, ◌*ℤ◌, set, replicate}
 use Rattle.std.proofs.Math.Path.{sym, ap}

@@ -77,7 +77,7 @@ pub fn incurred_ultimates(set: &[i64; 1200], m: usize) -> Option<[i64; 20]>
 }
 
 // The shares and ultimates of a file, written into lent lists: questions 1 to 5 and 9 to 11. A
-// refusal leaves the lists as they were.
+// refusal leaves the lists as they were. They are five, since C lends five.
 pub fn shares_into(
     file: &[u8],
     m: usize,

@@ -88,7 +88,8 @@ fn refused(number: u64) -> model::ClaimCostsAnswer
     }
 }
 
-// Questions 9 to 11, and the claim costs of a set on a line.
+// Questions 9 to 11, and the claim costs of a set on a line: the whole answer and no `Result` of it,
+// since that would go by value once more.
 fn claim_costs_of_set(set: &[i64; 1200], line: u64, m: usize) -> model::ClaimCostsAnswer
     requires { Amounts m (10 ^ 7) (triangle_in 0 set.now) × Amounts m (10 ^ 10) (triangle_in 1 set.now) }
     ensures { (like : TriangleSet) → line ≡ like.line → result ≡ costs_of_set m (lent_set like set.now) }

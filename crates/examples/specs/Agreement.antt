@@ -16,7 +16,7 @@ use Rattle.model.specs.Calls.{forecast_refusal, forecast_output}
 use Rattle.model.specs.CallsLaws.{if_accepted_lem}
 use Rattle.model.specs.declared.TriangleSet.{TriangleSet}
 
--- 01, Back-test: how many cells are compared, which is cellNumber
+-- 01, Back-test: how many cells are compared, which is cell_number
 unfoldable pub compared_cells : ℕ → ℕ → ℕ
 compared_cells m n = total n (λ k. total n (λ j. cond (compared m n (suc k) j) 1 0))
 

@@ -5,7 +5,7 @@
 
 pub mod errors;
 
-ghost use Rattle.std.specs.Prelude.{◌≡◌, ℕ, ◌+◌, ◌-◌, ◌*◌, ◌≤◌, ◌<◌, ℤ, pos};
+ghost use Rattle.std.specs.Prelude.{◌≡◌, ℕ, ◌+◌, ◌-◌, ◌*◌, ◌<◌, ℤ, pos};
 ghost use Rattle.model.specs.Lists.{listed};
 ghost use Rattle.model.specs.Calls.{zeros};
 ghost use Rattle.model.specs.Lent.{triangle_in};

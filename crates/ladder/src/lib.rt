@@ -7,7 +7,6 @@ ghost use Rattle.std.specs.Prelude.{◌≡◌, ◌*◌, ◌^◌, ◌≤◌, pos,
 ghost use Rattle.integers.specs.Parts.{◌⋖◌};
 ghost use Rattle.model.specs.Rounding.{r};
 ghost use Rattle.model.specs.Lists.{listed};
-ghost use Rattle.model.specs.Calls.{zeros};
 ghost use Rattle.ladder.specs.Ladder.{Steps, InBounds, Ready, share_in, g_of, Bounded, difference, grown};
 
 // The least cumulative share that is in bounds.

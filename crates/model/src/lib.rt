@@ -103,7 +103,7 @@ pub struct BackTestAnswer {
 
 // What a claims journal has come to (02, Job 3): each reported claim's accident year, 0 for none;
 // reports counted and payments added by cell, cell (i,j) at 20 × (i-1) + j; the calendar year of
-// the last transaction, 0 for none.
+// the last transaction, 0 for none: C lends this struct, and has no `Option`.
 #[repr(C)]
 #[derive(Clone, Copy)]
 pub struct JournalTally {

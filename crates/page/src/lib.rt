@@ -11,7 +11,7 @@ use tally::tally_of;
 
 // The closing page of a file, by method and basis, written to the front of the lent page: questions
 // 1 to 6, 15 and 9 to 14. The bytes past 136 × m keep their values, and a refusal leaves all as
-// they were.
+// they were. Any numbers may be handed in for m, method and basis.
 pub fn closing_page(
     file: &[u8],
     m: usize,

@@ -1,20 +1,21 @@
-// The functions of `arithmetic` over plain numbers, as a test or a benchmark in another language
-// calls them. Outside its range a function answers OUTSIDE.
+// The quotients of `rounding`, `arithmetic` and `scaling` over plain numbers, as a test or a
+// benchmark in another language calls them: outside its range a function answers OUTSIDE, past a
+// cap TOO_LARGE, numbers as C has them.
 #![tactic(auto)]
 
 ghost use Rattle.std.specs.Prelude.{◌≡◌};
 ghost use Rattle.model.specs.Questions.{within};
 ghost use Rattle.probes.specs.Probes.{round_div, share, ultimate, row_base, cell};
 
-const OUTSIDE: i64 = -9223372036854775808;
+const OUTSIDE: i64 = i64::MIN;
 
-const TOO_LARGE: i64 = 9223372036854775807;
+const TOO_LARGE: i64 = i64::MAX;
 
 // Whether low <= x <= high.
 fn lies_within(low: i64, high: i64, x: i64) -> bool
     ensures { result ≡ within low high x }
 {
-    low <= x && x <= high
+    (low..=high).contains(&x)
 }
 
 // The rounded quotient of a delay's numerator a by b.

@@ -1,9 +1,9 @@
 // The fields of a record of a file.
 ghost use Rattle.std.specs.Prelude.{◌≡◌, ◌+◌, ◌-◌, ◌*◌, ◌≤◌, ◌<◌, length, get_or};
-ghost use Rattle.model.specs.Records.{signed, value_at};
+ghost use Rattle.model.specs.Records.{value_at};
 ghost use Rattle.records.specs.OneRecord.{Number, HeadAt};
 
-// The byte at a place of the file.
+// The byte at a place of the file: `usize::from` with its range as a promise, for its callers.
 pub fn byte(file: &[u8], at: usize) -> usize
     requires { at < length file.now }
     ensures { (result ≡ get_or file.now at 0) × (result < 256) }

@@ -1,5 +1,5 @@
 // Question 1, how many records a set has, question 3 of a record, and question 5 of a value.
-ghost use Rattle.std.specs.Prelude.{◌≡◌, ◌&&◌, cond, ◌-◌, ◌*◌, ◌^◌, ◌≤◌, ◌<◌, ltb, eqb, pos, negsuc};
+ghost use Rattle.std.specs.Prelude.{◌≡◌, ◌&&◌, ◌-◌, ◌*◌, ◌≤◌, ◌<◌, ltb, eqb};
 ghost use Rattle.model.specs.Records.{inside, is_line, in_range, set_length};
 ghost use Rattle.model.specs.Questions.{q1, kinds};
 

@@ -1,3 +1,3 @@
--- The questions' numbers, and their law.
+-- The questions' numbers, and their laws.
 pub mod Refusals
 pub mod RefusalsLaws

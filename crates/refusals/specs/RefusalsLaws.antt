@@ -1,4 +1,4 @@
--- A law of Refusals. Assumes nothing.
+-- Laws of Refusals: no number is 0; what `?` and `ok_or` hand on. Assumes nothing.
 use Rattle.std.specs.Prelude.{Result, Ok, Err, Option, Some, None}
 use Rattle.std.specs.Option.{ok_or}
 use Rattle.std.specs.Result.{IsErrAnd}

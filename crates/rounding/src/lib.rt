@@ -70,7 +70,7 @@ pub fn round_share(whole: i64, part: i64, k: i64, n: i64) -> i64
     round_quotient(whole + part / n * k + left / n, left % n, n)
 }
 
-// k, or its opposite where `negative` says so.
+// k, or its opposite where `negative` says so: a sign, and no choice of steps.
 pub fn with_sign(negative: bool, k: i64) -> i64
     requires { nat_abs k ≤ 2 * 10 ^ 18 }
     ensures { result ≡ turned negative k }

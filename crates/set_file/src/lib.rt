@@ -40,7 +40,7 @@ pub fn write_lent<'a>(
     Ok(())
 }
 
-// The writer, of triangles by value.
+// The writer, of triangles by value: the form that document 01 names, beside the one that C calls.
 pub fn write_set(
     m: usize,
     line: u64,

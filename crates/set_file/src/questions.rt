@@ -18,7 +18,7 @@ fn year_ok(kind: usize, cells: &[i64; 400], year: usize, n: usize) -> bool
     true
 }
 
-// Question 5 of the cells of a triangle, year by year.
+// Question 5 of the cells of a triangle, year by year; its kind is the number that its records get.
 fn cells_ok(m: usize, kind: usize, cells: &[i64; 400]) -> bool
     requires { m ≤ 20 }
     ensures { result ≡ each_cell m (λ i j. in_range kind (cell cells.now i j)) }
@@ -31,7 +31,7 @@ fn cells_ok(m: usize, kind: usize, cells: &[i64; 400]) -> bool
     true
 }
 
-// Question 5 of the set, with the flag as `write_lent` has it.
+// Question 5 of the set, with the flag and the three triangles as `write_lent` has them from C.
 #[tactic(auto, unfolding(model::specs::Questions::q5_writer))]
 pub fn set_ok<'a>(
     m: usize,

@@ -14,7 +14,7 @@ use Rattle.solver.specs.Solved.{Solvable, Weighed, Next, weighed_sum, held}
 pub held_small : (z : ℤ) → held z ≡ true → nat_abs z ≤ 8 * 10 ^ 9
 held_small z e = let w = within_so _ _ z e in nat_abs-≤.1 (w.1, w.0)
 
--- the sum of delayAfter, and that of solvesAt
+-- the sum of delay_after, and that of solves_at
 pub from_one : (b p : List ℤ) (l : ℕ) → weighed_sum b p 1 l ≡ sum l (λ k. at b (suc k) *ℤ at p (l - suc k))
 unfolding weighed_sum
 from_one b p l =

@@ -3,11 +3,10 @@
 
 ghost use Rattle.std.specs.Prelude.{◌≡◌, ◌+◌, ◌-◌, ◌*◌, ◌≤◌, ◌<◌, length};
 ghost use Rattle.integers.specs.Sums.{sum};
-ghost use Rattle.model.specs.Lists.{at};
 ghost use Rattle.model.specs.Cells.{size};
 ghost use Rattle.model.specs.Calendar.{tally_of};
 ghost use Rattle.tally.specs.YearSums.{Small};
-ghost use Rattle.tally.specs.YearRows.{Spaced, yearly};
+ghost use Rattle.tally.specs.YearRows.{yearly};
 
 use arithmetic::spaced_sum;
 use year_tally::Tally;

@@ -1,4 +1,5 @@
-// The text that `closing` prints: of a tally, or of a refusal.
+// The lines of a tally in a layout, and the text that `closing` prints: of a tally, or of a
+// refusal.
 #![tactic(auto)]
 
 ghost use Rattle.std.specs.Prelude.{◌≡◌, true, ℕ, ◌+◌, ◌≤◌, ◌<◌, ◌+ℤ◌, length};
@@ -78,6 +79,7 @@ pub fn write_tally_text(out: &mut [u8], m: usize, t: &Tally) -> usize
 }
 
 // Writes "refused n" and a newline at the start of the output, and hands back the text's length.
+// The text has a number, so this takes one.
 pub fn write_refusal(out: &mut [u8], n: u64) -> usize
     requires { length (refusal_text n) ≤ length out.old }
     ensures { (out.new ≡ overlay out.old 0 (refusal_text n)) × (result ≡ length (refusal_text n)) }

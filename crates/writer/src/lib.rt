@@ -91,7 +91,7 @@ fn put_kind(
 }
 
 // Writes the set's file at the front of the output: by kind, then year, then delay. A kind is the
-// number that its records get; the flag is that of the writer's calls.
+// number that its records get; the flag and the three triangles are those of the writer's calls.
 pub fn put_set<'a>(
     m: usize,
     line: usize,

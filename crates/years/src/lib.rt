@@ -42,7 +42,8 @@ pub fn whole_sums(sums: &mut [i64; 39], b: &[i64; 20], p: &[i64; 20], m: usize)
 
 // The cell forecast of years 1 to m, at the front of the output: v holds the row bases, p the
 // delays, and shares are those of counts. A year leaves one reporting delay fewer to the reported
-// claims than the year before it.
+// claims than the year before it. `basis` is the number of the calls, any one; the loop is `gaps`'
+// too, which says why it is not shared.
 pub fn cell_forecast(
     out: &mut [i64],
     m: usize,

@@ -18,8 +18,8 @@ use years::cell_forecast;
 
 // The forecast of a set from what is prepared of it: questions 13 and 14, the leftovers, and the
 // cells at the front of the output. Several methods can share what is prepared, and its delays may
-// come from elsewhere. A refusal leaves the lent memory as it was. In this crate method and basis
-// are numbers, as in the calls: an enum would ask more of who calls `forecast_either`.
+// come from elsewhere. A refusal leaves the lent memory as it was. Method and basis are numbers
+// here, as in the calls; of the basis any one, so an enum would ask more.
 pub fn forecast_prepared(
     set: &[i64; 1200],
     m: usize,

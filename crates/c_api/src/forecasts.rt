@@ -26,8 +26,9 @@ pub extern "C" fn pardesul_forecast(
     ensures near_reserves { result ≡ 0 → method ≡ 0 → basis ≡ 1 → NearReserves m (set_of m file.now).paid out.new }
 {
     let answer = forecast::forecast_into(file, m, method, basis, leftovers, out);
-    triangles::store_line(file, answer, line);
-    refusal_number(answer)
+    let refusal = refusal_number(answer);
+    triangles::store_line(file, refusal, line);
+    refusal
 }
 
 // The forecast by delays that are given.
@@ -52,8 +53,9 @@ pub extern "C" fn pardesul_forecast_with_delays(
     let answer = forecast::forecast_with_delays_into(
         file, m, method, basis, delays, leftovers, out,
     );
-    triangles::store_line(file, answer, line);
-    refusal_number(answer)
+    let refusal = refusal_number(answer);
+    triangles::store_line(file, refusal, line);
+    refusal
 }
 
 // The calendar-year tally with one cell added.

@@ -27,8 +27,9 @@ pub extern "C" fn pardesul_shares(
     ensures u_after { u.new ≡ if_accepted result (shares_answer m file.now).u u.old }
 {
     let answer = chain_ladder::shares_into(file, m, b, n, q, g, u);
-    triangles::store_line(file, answer, line);
-    refusal_number(answer)
+    let refusal = refusal_number(answer);
+    triangles::store_line(file, refusal, line);
+    refusal
 }
 
 // The delays, p(l) at place l.
@@ -40,8 +41,9 @@ pub extern "C" fn pardesul_delays(file: &[u8], m: usize, line: &mut u64, p: &mut
     ensures p_after { p.new ≡ if_accepted result (delays_answer m file.now).p p.old }
 {
     let answer = delays::delays_into(file, m, p);
-    triangles::store_line(file, answer, line);
-    refusal_number(answer)
+    let refusal = refusal_number(answer);
+    triangles::store_line(file, refusal, line);
+    refusal
 }
 
 // Whether given delays fit the file.

@@ -36,8 +36,14 @@ pub fn split(inflations: [YearInflation; 20], kinds: &mut [u8; 20], ratios: &mut
     ensures kinds_after { kinds.new ≡ kinds_of inflations }
     ensures ratios_after { ratios.new ≡ ratios_of inflations }
 {
-    *kinds = inflations.map(|year| kind(year.value));
-    *ratios = inflations.map(|year| ratio(year.value));
+    *kinds = [0; 20];
+    *ratios = [0.0; 20];
+    // one loop for both: `map`, once for each, copies the list and was slower
+    for k in 0..20 {
+        let value = inflations[k].value;
+        kinds[k] = kind(value);
+        ratios[k] = ratio(value);
+    }
 }
 
 // The date of three numbers: year, month and day. No `From`: neither type is this crate's.

@@ -120,10 +120,11 @@ pub fn shares(file: &[u8], m: usize) -> model::SharesAnswer
     let mut g = [0i64; 20];
     let mut u = [0i64; 20];
     let answer = shares_into(file, m, &mut b, &mut n, &mut q, &mut g, &mut u);
+    let refusal = refusal_number(answer);
     let mut line = 0;
-    triangles::store_line(file, answer, &mut line);
+    triangles::store_line(file, refusal, &mut line);
     model::SharesAnswer {
-        refusal: refusal_number(answer),
+        refusal,
         line,
         b,
         n,

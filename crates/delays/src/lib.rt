@@ -110,13 +110,10 @@ pub fn delays(file: &[u8], m: usize) -> model::DelaysAnswer
 {
     let mut p = [0i64; 20];
     let answer = delays_into(file, m, &mut p);
+    let refusal = refusal_number(answer);
     let mut line = 0;
-    triangles::store_line(file, answer, &mut line);
-    model::DelaysAnswer {
-        refusal: refusal_number(answer),
-        line,
-        p,
-    }
+    triangles::store_line(file, refusal, &mut line);
+    model::DelaysAnswer { refusal, line, p }
 }
 
 // Whether lent delays, in billionths, fit a file: questions 1 to 5, 9 to 11 and 20.
@@ -125,10 +122,8 @@ pub fn check_delays(file: &[u8], m: usize, delays: &[i64]) -> model::CheckDelays
 {
     let mut p = [0i64; 20];
     let answer = file_delays(file, m, Some(delays), &mut p);
+    let refusal = refusal_number(answer);
     let mut line = 0;
-    triangles::store_line(file, answer, &mut line);
-    model::CheckDelaysAnswer {
-        refusal: refusal_number(answer),
-        line,
-    }
+    triangles::store_line(file, refusal, &mut line);
+    model::CheckDelaysAnswer { refusal, line }
 }

@@ -90,10 +90,11 @@ pub fn forecast(file: &[u8], m: usize, method: u64, basis: u64, out: &mut [i64])
 {
     let mut leftovers = [0i64; 20];
     let answer = forecast_into(file, m, method, basis, &mut leftovers, out);
+    let refusal = refusal_number(answer);
     let mut line = 0;
-    triangles::store_line(file, answer, &mut line);
+    triangles::store_line(file, refusal, &mut line);
     ForecastAnswer {
-        refusal: refusal_number(answer),
+        refusal,
         line,
         leftovers,
     }
@@ -131,10 +132,11 @@ pub fn forecast_with_delays(
 {
     let mut leftovers = [0i64; 20];
     let answer = forecast_with_delays_into(file, m, method, basis, delays, &mut leftovers, out);
+    let refusal = refusal_number(answer);
     let mut line = 0;
-    triangles::store_line(file, answer, &mut line);
+    triangles::store_line(file, refusal, &mut line);
     ForecastAnswer {
-        refusal: refusal_number(answer),
+        refusal,
         line,
         leftovers,
     }

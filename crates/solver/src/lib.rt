@@ -83,7 +83,8 @@ pub fn checked(m: usize, b: &[i64; 20], q: &[i64; 20], lent: &[i64]) -> Option<[
         return None;
     }
     let mut p = [0i64; 20];
-    for (l, &y) in lent.iter().enumerate() {
+    for l in 0..m {
+        let y = lent[l];
         if !in_range(y) {
             return None;
         }

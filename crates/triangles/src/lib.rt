@@ -45,11 +45,11 @@ pub fn line(file: &[u8]) -> u64
     u64::from(file.get(3).copied().unwrap_or(0))
 }
 
-// Stores the line of a file that is accepted.
-pub fn store_line(file: &[u8], answer: Result<(), Refusal>, out: &mut u64)
-    ensures { out.new ≡ if_accepted (refusal_number answer) (line_of file.now) out.old }
+// Stores the line of a file beside its refusal number, where that is 0.
+pub fn store_line(file: &[u8], number: u64, out: &mut u64)
+    ensures { out.new ≡ if_accepted number (line_of file.now) out.old }
 {
-    if answer.is_ok() {
+    if number == 0 {
         *out = line(file);
     }
 }

@@ -1,20 +1,25 @@
--- `split` meets its contract: each item of the two lists is what the closure gives. Assumes
--- nothing.
-use Rattle.std.proofs.Common.{rules}
-use Rattle.model.specs.ListsLaws.{is_tabulate}
-use Rattle.model.specs.ClaimCosts.{no_float, year_inflation}
-use Rattle.model.specs.declared.Inflation.TheVariants.{BaseYear}
+-- `split` meets its contract. Assumes nothing.
+use Rattle.std.proofs.Common.{◌≡◌, ◌∙◌, arith}
+use Rattle.std.specs.Float.Ieee.{of_bits}
+use Rattle.model.specs.ListsLaws.{listed_none, listed_next, listed_whole}
+use Rattle.model.specs.ClaimCosts.{no_float}
 use Rattle.c_forms.specs.Inflations.{kinds_of, ratios_of}
 use Rattle.c_forms.proofs.split.Goals as goal
 
-pub returns-clause-kinds_after : goal.returns-clause-kinds_after
-unfolding kinds_of
-returns-clause-kinds_after c =
-    let m = c.map.ensures.items in
-    is_tabulate 20 _ c.map.result 0 m.long (λ k h. let w = m.at k (year_inflation BaseYear) 0 h in search rules)
+pub loop-k-init : goal.loop-k-init
+unfolding of_bits
+loop-k-init c = record { kinds_made = listed_none 20 _ 0; ratios_made = listed_none 20 _ no_float }
 
-pub returns-clause-ratios_after : goal.returns-clause-ratios_after
-unfolding ratios_of
-returns-clause-ratios_after c =
-    let m = c.map-2.ensures.items in
-    is_tabulate 20 _ c.map-2.result no_float m.long (λ k h. let w = m.at k (year_inflation BaseYear) no_float h in search rules)
+pub loop-k-preserved : goal.loop-k-preserved
+loop-k-preserved c =
+    let l = c.loop-k in record {
+      kinds_made = listed_next 20 l.k _ 0 (omega arith) l.invariant.kinds_made c.kind.ensures;
+      ratios_made = listed_next 20 l.k _ no_float (omega arith) l.invariant.ratios_made c.ratio.ensures;
+    }
+
+pub returns : goal.returns
+unfolding kinds_of ratios_of
+returns c =
+    let l = c.loop-k in
+    let all : l.k ≡ 20 = omega arith in
+    record { kinds_after = rw all at l.invariant.kinds_made ∙ listed_whole 20 _ 0; ratios_after = rw all at l.invariant.ratios_made ∙ listed_whole 20 _ no_float }

@@ -3,4 +3,4 @@ use Rattle.delays.specs.PreparedLaws.{as_checked}
 use Rattle.delays.proofs.check_delays.Goals as goal
 
 pub returns : goal.returns
-returns c = rw c.refusal_number.ensures (as_checked c.args.m c.args.file.now c.file_delays-answer.ensures c.store_line.ensures)
+returns c = rw c.refusal_number-refusal.ensures (as_checked c.args.m c.args.file.now c.file_delays-answer.ensures (rw c.refusal_number-refusal.ensures at c.store_line.ensures))

@@ -5,4 +5,4 @@ use Rattle.delays.proofs.delays.Goals as goal
 pub returns : goal.returns
 returns c =
     let e = c.delays_into-answer.ensures in
-    rw c.refusal_number.ensures (delays_whole c.args.m c.args.file.now e.value c.store_line.ensures e.p_after)
+    rw c.refusal_number-refusal.ensures (delays_whole c.args.m c.args.file.now e.value (rw c.refusal_number-refusal.ensures at c.store_line.ensures) e.p_after)

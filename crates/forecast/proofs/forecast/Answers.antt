@@ -14,4 +14,4 @@ unfolding forecast_refusal forecast_answer forecast_output of_forecast of_either
 returns c =
     let a = c.args in
     let e = c.forecast_into-answer.ensures in
-    rw c.refusal_number.ensures (record { result = by_value a.m a.file.now a.method a.basis None a.out.now (e.value, (e.leftovers_after, (e.out_after, e.near_reserves))) c.store_line.ensures; output = e.out_after; reserve = e.near_reserves })
+    rw c.refusal_number-refusal.ensures (record { result = by_value a.m a.file.now a.method a.basis None a.out.now (e.value, (e.leftovers_after, (e.out_after, e.near_reserves))) (rw c.refusal_number-refusal.ensures at c.store_line.ensures); output = e.out_after; reserve = e.near_reserves })

@@ -13,4 +13,4 @@ unfolding forecast_with_refusal forecast_with_answer forecast_with_output of_for
 returns c =
     let a = c.args in
     let e = c.forecast_with_delays_into-answer.ensures in
-    rw c.refusal_number.ensures (record { result = by_value a.m a.file.now a.method a.basis (Some a.delays.now) a.out.now (e.value, (e.leftovers_after, (e.out_after, e.near_reserves))) c.store_line.ensures; output = e.out_after; reserve = e.near_reserves })
+    rw c.refusal_number-refusal.ensures (record { result = by_value a.m a.file.now a.method a.basis (Some a.delays.now) a.out.now (e.value, (e.leftovers_after, (e.out_after, e.near_reserves))) (rw c.refusal_number-refusal.ensures at c.store_line.ensures); output = e.out_after; reserve = e.near_reserves })

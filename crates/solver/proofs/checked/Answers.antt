@@ -66,7 +66,7 @@ module _ (c : Else-not-in_range) where
   line = same_line c.args.b.now c.args.q.now p lent l here
 
 pub returns-then-lent-m : goal.returns-then-lent-m
-returns-then-lent-m c = let a = c.args in turned_away a.m a.b.now a.q.now a.lent.now (by_number a.m a.b.now a.q.now a.lent.now c.if-lent-m.true)
+returns-then-lent-m c = let a = c.args in turned_away a.m a.b.now a.q.now a.lent.now (by_number a.m a.b.now a.q.now a.lent.now (λ e. omega (arith, e, c.if-lent-m.true)))
 
 pub loop-l-init : goal.loop-l-init
 loop-l-init c = record { placed = listed_none 20 _ (pos 0); in_bounds = every_none _; solved = every_none _ }
